@@ -1,0 +1,44 @@
+-- Laws of sums and running sums.
+use Prim.Native.Nat.{ℕ, zero, suc, _+_, _^_, _≤_, _<_}
+use mathlib.Core.Path.{_≡_, refl, sym, ap, _∙_}
+use mathlib.Core.List.{List, [], _∷_}
+use native.Mathlib.Omega.{arith}
+use lib.ListN.{length, getD, take}
+use Rattle.laws.specs.Sums.{total, runningFrom, runningSums}
+
+-- one number more
+pub total-take-suc : (xs : List ℕ) (i : ℕ) → i < length xs → total (take (suc i) xs) ≡ total (take i xs) + getD xs i 0
+total-take-suc [] i h = absurd (omega arith)
+total-take-suc (x ∷ xs) zero h = omega arith
+total-take-suc (x ∷ xs) (suc i) h = omega (arith, total-take-suc xs i (omega arith))
+
+-- the sum of a front part is at most the sum of a longer one, and of all
+pub total-take-mono : (xs : List ℕ) (i j : ℕ) → i ≤ j → total (take i xs) ≤ total (take j xs)
+total-take-mono xs zero j h = omega arith
+total-take-mono xs (suc i) zero h = absurd (omega arith)
+total-take-mono [] (suc i) (suc j) h = omega arith
+total-take-mono (x ∷ xs) (suc i) (suc j) h = omega (arith, total-take-mono xs i j (omega arith))
+
+pub total-take-le : (xs : List ℕ) (i : ℕ) → total (take i xs) ≤ total xs
+total-take-le xs zero = omega arith
+total-take-le [] (suc i) = omega arith
+total-take-le (x ∷ xs) (suc i) = omega (arith, total-take-le xs i)
+
+-- where all numbers sum below 2 ^ w, so does every front part with the next number added
+pub sum-fits : (w : ℕ) (xs : List ℕ) (i : ℕ) → i < length xs → total xs < 2 ^ w → total (take i xs) + getD xs i 0 < 2 ^ w
+sum-fits w xs i l h = omega (arith, total-take-suc xs i l, total-take-le xs (suc i))
+
+pub length-running : (b : ℕ) (xs : List ℕ) → length (runningFrom b xs) ≡ length xs
+length-running b [] = refl
+length-running b (x ∷ xs) = ap suc (length-running (b + x) xs)
+
+-- a running sum is the sum of a front part
+pub running-at : (b : ℕ) (xs : List ℕ) (i : ℕ) → i < length xs → getD (runningFrom b xs) i 0 ≡ b + total (take (suc i) xs)
+running-at b [] i h = absurd (omega arith)
+running-at b (x ∷ xs) zero h = omega arith
+running-at b (x ∷ xs) (suc i) h = omega (arith, running-at (b + x) xs i (omega arith))
+
+-- running sums never fall
+pub running-rises : (b : ℕ) (xs : List ℕ) (i j : ℕ) → i ≤ j → j < length xs → getD (runningFrom b xs) i 0 ≤ getD (runningFrom b xs) j 0
+running-rises b xs i j h l =
+    omega (arith, running-at b xs i (omega arith), running-at b xs j l, total-take-mono xs (suc i) (suc j) (omega arith))
