@@ -1,0 +1,4 @@
+pub mod Decimal
+pub mod Ordering
+pub mod Stake
+pub mod Examples
