@@ -1,0 +1,4 @@
+pub mod Refusals
+pub mod Outcome
+pub mod Stream
+pub mod Answers
