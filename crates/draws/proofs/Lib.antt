@@ -1,0 +1,6 @@
+pub mod BelowLaws
+pub mod FractionLaws
+pub mod WeightedLaws
+pub mod ShuffleLaws
+pub mod Fairness
+pub mod ShuffleFairness

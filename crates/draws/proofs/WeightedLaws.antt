@@ -1,0 +1,103 @@
+-- Laws of the place that a value chooses among weights, and of its remainder.
+use Prim.Native.Nat.{ℕ, zero, suc, _+_, _-_, _≤_, _<_}
+use mathlib.Core.Path.{_≡_, refl, sym, ap, _∙_}
+use mathlib.Core.Bool.{Bool, true, false, cond}
+use mathlib.Core.List.{List, [], _∷_, _++_}
+use native.Mathlib.Omega.{arith}
+use lib.Dec.{ltb}
+use lib.ListN.{length, getD, take}
+use lib.Seq.{take-length, take-at}
+use borrow.Author.Tests.{ltb-true, ltb-false, lt-ltb, le-ltb}
+use Rattle.laws.specs.Sums.{total, runningFrom, runningSums}
+use Rattle.laws.proofs.Sums.{total-take-suc, length-running, running-at, running-rises}
+use Rattle.draws.specs.declared.weighted.Place.{Place}
+use Rattle.draws.specs.Weighted.{firstAbove, chosen, remainder, placeOf, Rising}
+
+-- r is the smallest place whose number exceeds v: no number before it does, and the number there does, if there is one
+pub first-above-is : (xs : List ℕ) (v r : ℕ) → r ≤ length xs → ((k : ℕ) → k < r → getD xs k 0 ≤ v) → (r < length xs → v < getD xs r 0) → r ≡ firstAbove xs v
+first-above-is [] v r w b h = omega arith
+first-above-is (x ∷ xs) v zero w b h = rw (lt-ltb v x (h (omega arith)))
+first-above-is (x ∷ xs) v (suc r) w b h =
+    rw (le-ltb v x (b 0 (omega arith)))
+    (ap suc (first-above-is xs v r (omega arith) (λ k l. b (suc k) (omega arith)) (λ l. h (omega arith))))
+
+pub running-rising : (weights : List ℕ) → Rising (runningSums weights)
+running-rising weights i j h l = running-rises 0 weights i j h (omega (arith, length-running 0 weights))
+
+-- what the place of a value below the sum is
+pub record Chosen (before : ℕ) (weights : List ℕ) (v at : ℕ) : Type 0 where
+  pub within : at < length weights
+  pub reached : before + total (take at weights) ≤ v
+  pub exceeded : v < before + total (take (suc at) weights)
+
+chosen-from : (before : ℕ) (weights : List ℕ) (v : ℕ) → before ≤ v → v < before + total weights →
+    Chosen before weights v (firstAbove (runningFrom before weights) v)
+chosen-from b [] v l h = absurd (omega arith)
+chosen-from b (x ∷ xs) v l h = go (ltb v (b + x)) refl (chosen-from (b + x) xs v)
+  where
+    go : (t : Bool) → ltb v (b + x) ≡ t →
+        (b + x ≤ v → v < b + x + total xs → Chosen (b + x) xs v (firstAbove (runningFrom (b + x) xs) v)) →
+        Chosen b (x ∷ xs) v (cond t 0 (suc (firstAbove (runningFrom (b + x) xs) v)))
+    go true e ih = record { within = omega arith; reached = omega arith; exceeded = omega (arith, ltb-true v (b + x) e) }
+    go false e ih =
+        let r = ih (ltb-false v (b + x) e) (omega arith) in
+        record { within = omega (arith, r .within); reached = omega (arith, r .reached); exceeded = omega (arith, r .exceeded) }
+
+module _ (weights : List ℕ) (v : ℕ) (h : v < total weights) where
+  pub chosen-is : Chosen 0 weights v (chosen weights v)
+  chosen-is = chosen-from 0 weights v (omega arith) (omega arith)
+
+  -- the remainder is below the weight at the place: so a weight of zero is never the answer
+  pub remainder-lt : remainder weights v < getD weights (chosen weights v) 0
+  remainder-lt =
+      let c = chosen-is in
+      omega (arith, c .reached, c .exceeded, total-take-suc weights (chosen weights v) (c .within))
+
+  -- place and remainder give the value back
+  pub value-back : total (take (chosen weights v) weights) + remainder weights v ≡ v
+  value-back = omega (arith, chosen-is .reached)
+
+  -- the running sum at the place, less the weight there, is the running sum before it
+  pub sum-before : getD (runningSums weights) (chosen weights v) 0 - getD weights (chosen weights v) 0 ≡ total (take (chosen weights v) weights)
+  sum-before =
+      let c = chosen-is in
+      omega (arith, running-at 0 weights (chosen weights v) (c .within), total-take-suc weights (chosen weights v) (c .within))
+
+-- the front of a buffer that the running sums were written to
+pub sums-front : (weights held : List ℕ) → take (length weights) (runningSums weights ++ held) ≡ runningSums weights
+sums-front weights held = take-at (runningSums weights) held (length weights) (length-running 0 weights)
+
+-- what a search of the running sums finds
+pub record Found (weights sums : List ℕ) (v at : ℕ) : Type 0 where
+  pub among-weights : at < length weights
+  pub among-sums : at < length sums
+  pub weight-le : getD weights at 0 ≤ getD sums at 0
+  pub before-le : getD sums at 0 - getD weights at 0 ≤ v
+  pub is : _≡_ {A = Place} (record { at = at; remainder = v - (getD sums at 0 - getD weights at 0) }) (placeOf weights v)
+
+pub found : (weights sums : List ℕ) (v at : ℕ) → sums ≡ runningSums weights → v < total weights → at ≡ firstAbove sums v → Found weights sums v at
+found weights sums v at e h f = rw (e, f, e) (record {
+  among-weights = c .within;
+  among-sums = omega (arith, c .within, length-running 0 weights);
+  weight-le = omega (arith, running-at 0 weights p (c .within), total-take-suc weights p (c .within));
+  before-le = omega (arith, c .reached, sum-before weights v h);
+  is = rw (sum-before weights v h);
+})
+  where
+    p : ℕ
+    p = chosen weights v
+
+    c : Chosen 0 weights v (chosen weights v)
+    c = chosen-is weights v h
+
+-- the last running sum is the sum
+pub last-sum : (weights : List ℕ) → 0 < total weights → getD (runningSums weights) (length weights - 1) 0 ≡ total weights
+last-sum [] h = absurd (omega arith)
+last-sum (x ∷ xs) h =
+    let e : length (x ∷ xs) - 1 ≡ length xs = omega arith in
+    rw e (omega (arith, running-at 0 (x ∷ xs) (length xs) (omega arith), ap total (take-length (x ∷ xs))))
+
+-- weights that sum to more than 0 are not none
+pub some-weight : (weights : List ℕ) → 0 < total weights → 0 < length weights
+some-weight [] h = absurd (omega arith)
+some-weight (x ∷ xs) h = omega arith

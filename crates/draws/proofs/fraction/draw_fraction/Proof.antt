@@ -1,0 +1,27 @@
+-- `draws::fraction::draw_fraction` meets its contract.
+use borrow.Author.Needs.{needs}
+use Rattle.draws.proofs.fraction.draw_fraction.Statement.{statement}
+use Rattle.draws.proofs.fraction.draw_fraction.Tie as tie
+
+next-word-requires : tie.Need-next-word-requires
+next-word-requires c κs = search needs
+
+enum-known-word : tie.Need-enum-known-word
+enum-known-word c = search needs
+
+fraction-of-requires : tie.Need-fraction-of-requires
+fraction-of-requires c κs = search needs
+
+enum-told : tie.Need-enum-told
+enum-told c = search needs
+
+returns : tie.Need-returns
+returns c = let w = c .before .before in rw (← w .before .before .next-word .ensures, w .word .given .1, c .fraction-of .ensures .is)
+
+returns-2 : tie.Need-returns-2
+returns-2 c = rw (← c .before .before .next-word .ensures, c .enum-told .given .1)
+
+pub draw-fraction-spec : {M : Type 1} → statement M
+draw-fraction-spec =
+    tie.close
+    (tie.spec next-word-requires enum-known-word fraction-of-requires enum-told returns returns-2)

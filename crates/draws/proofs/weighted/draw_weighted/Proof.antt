@@ -1,0 +1,84 @@
+-- `draws::weighted::draw_weighted` meets its contract: the last running sum is the sum that the value is drawn below.
+use Prim.Native.Nat.{ℕ, _-_, _<_}
+use mathlib.Core.Path.{_≡_, sym, ap, _∙_}
+use mathlib.Core.List.{List}
+use native.Mathlib.Omega.{arith}
+use denote.Ref.{now}
+use lib.ListN.{length, getD}
+use Rattle.laws.specs.Sums.{total, runningSums}
+use Rattle.laws.proofs.Sums.{length-running}
+use Rattle.words.specs.Stream.{stream}
+use Rattle.draws.specs.declared.below.Below.{Below}
+use Rattle.draws.specs.Below.{below}
+use Rattle.draws.specs.Answers.{belowSays}
+use Rattle.draws.proofs.BelowLaws.{drawn-lt}
+use Rattle.draws.proofs.WeightedLaws.{last-sum, some-weight}
+use borrow.Author.Needs.{needs}
+use Rattle.draws.proofs.weighted.draw_weighted.Statement.{statement}
+use Rattle.draws.proofs.weighted.draw_weighted.Tie as tie
+
+-- there is a running sum, and the last one is the sum of the weights
+long : (weights sums : List ℕ) → sums ≡ runningSums weights → 0 < total weights → 0 < length sums
+long weights sums e h = rw e (omega (arith, length-running 0 weights, some-weight weights h))
+
+last : (weights sums : List ℕ) → sums ≡ runningSums weights → 0 < total weights → getD sums (length sums - 1) 0 ≡ total weights
+last weights sums e h = rw (e, length-running 0 weights) (last-sum weights h)
+
+-- what the draw below the sum said
+drawn : (c : tie.After-draw-below) →
+    let d = c .draw-below in
+    let a = c .before .before .before .before .before .before .args in
+    below (total (now (a .weights))) (stream (now (a .list)) (now (a .words))) ≡ belowSays (d .result) (stream (now (a .list)) (d .last .1 .0))
+drawn c =
+    let s = c .before .before .before .before .before .before in
+    let a = s .args in
+    ap (λ (m : ℕ). below m (stream (now (a .list)) (now (a .words)))) (sym (last (now (a .weights)) (now (a .sums)) (s .pre .0) (s .pre .1)))
+    ∙ sym (c .draw-below .ensures)
+
+sub-sum : tie.Need-sub-sum
+sub-sum c = let s = c .before .before .before in long (now (s .args .weights)) (now (s .args .sums)) (s .pre .0) (s .pre .1)
+
+mul-sum : tie.Need-mul-sum
+mul-sum c = search needs
+
+shared-slice-read-sum : tie.Need-shared-slice-read-sum
+shared-slice-read-sum c =
+    let s = c .before .before .before .before in
+    omega (arith, long (now (s .args .weights)) (now (s .args .sums)) (s .pre .0) (s .pre .1))
+
+draw-below-requires : tie.Need-draw-below-requires
+draw-below-requires c κs =
+    let s = c .before .before .before .before .before in
+    rw (last (now (s .args .weights)) (now (s .args .sums)) (s .pre .0) (s .pre .1)) (s .pre .1)
+
+enum-known-v : tie.Need-enum-known-v
+enum-known-v c = search needs
+
+place-of-requires : tie.Need-place-of-requires
+place-of-requires c κs =
+    let d = c .before .before .before in
+    let s = d .before .before .before .before .before .before in
+    (s .pre .0, drawn-lt (total (now (s .args .weights))) (s .pre .1) (stream (now (s .args .list)) (now (s .args .words))) (drawn d ∙ ap (λ (r : Below). belowSays r (stream (now (s .args .list)) (d .draw-below .last .1 .0))) (c .before .v .given .1)))
+
+enum-told : tie.Need-enum-told
+enum-told c = search needs
+
+returns : tie.Need-returns
+returns c = let v = c .before .before in rw (drawn (v .before .before), v .v .given .1, c .place-of .ensures)
+
+returns-2 : tie.Need-returns-2
+returns-2 c = rw (drawn (c .before .before), c .enum-told .given .1)
+
+pub draw-weighted-spec : {M : Type 1} → statement M
+draw-weighted-spec =
+    tie.close
+    (tie.spec
+    sub-sum
+    mul-sum
+    shared-slice-read-sum
+    draw-below-requires
+    enum-known-v
+    place-of-requires
+    enum-told
+    returns
+    returns-2)

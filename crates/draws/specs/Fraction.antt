@@ -1,0 +1,33 @@
+-- "Fraction".
+use Prim.Native.Nat.{ℕ, _/_, _^_}
+use mathlib.Core.Path.{_≡_}
+use mathlib.Core.Bool.{false}
+use mathlib.Core.List.{List}
+use lib.IntN.{pos}
+use lib.Dec.{T}
+use lib.Ieee.{Float, fin, binary64, round, le, lt}
+use lib.Ieee.Exact.{HasValue}
+use Rattle.words.specs.Outcome.{Outcome, accepted, next, read}
+
+-- 0 and 1 in f64
+abbrev pub zeroF : Float
+zeroF = fin false 0 (pos 0)
+
+abbrev pub oneF : Float
+oneF = fin false 1 (pos 0)
+
+-- floor(w / 2^11) / 2^53, as the f64 that is nearest; `Exact` says that it is the number itself
+unfoldable pub fractionOf : ℕ → Float
+unfolding round
+fractionOf w = round binary64 false (w / 2 ^ 11) (2 ^ 53)
+
+-- "one word, floor(w / 2^11) / 2^53"
+abbrev pub fraction : List ℕ → Outcome Float
+fraction ws = next (read ws) (λ w left. accepted (fractionOf w) left)
+
+-- r is the fraction of w; nothing was rounded; it is at least 0 and below 1
+pub record Exact (w : ℕ) (r : Float) : Type 0 where
+  pub is : r ≡ fractionOf w
+  pub exact : HasValue r false (w / 2 ^ 11) (2 ^ 53)
+  pub low : T (le zeroF r)
+  pub high : T (lt r oneF)

@@ -1,0 +1,5 @@
+pub mod Below
+pub mod Fraction
+pub mod Weighted
+pub mod Shuffle
+pub mod Answers

@@ -1,0 +1,35 @@
+-- "Weighted draw".
+use Prim.Native.Nat.{ℕ, suc, _-_, _≤_, _<_}
+use mathlib.Core.Bool.{cond}
+use mathlib.Core.List.{List, [], _∷_}
+use lib.Dec.{ltb}
+use lib.ListN.{length, getD, take}
+use Rattle.laws.specs.Sums.{total, runningSums}
+use Rattle.words.specs.Outcome.{Outcome, accepted, next}
+use Rattle.draws.specs.declared.weighted.Place.{Place}
+use Rattle.draws.specs.Below.{below}
+
+-- the smallest place whose number exceeds v; the length where none does
+abbrev pub firstAbove : List ℕ → ℕ → ℕ
+firstAbove [] v = 0
+firstAbove (x ∷ xs) v = cond (ltb v x) 0 (suc (firstAbove xs v))
+
+-- "the smallest place whose running sum exceeds v"
+abbrev pub chosen : List ℕ → ℕ → ℕ
+chosen weights v = firstAbove (runningSums weights) v
+
+-- the value drawn less the running sum before the place that it chooses
+abbrev pub remainder : List ℕ → ℕ → ℕ
+remainder weights v = v - total (take (chosen weights v) weights)
+
+-- both
+abbrev pub placeOf : List ℕ → ℕ → Place
+placeOf weights v = record { at = chosen weights v; remainder = remainder weights v }
+
+-- "a draw v below the sum", and its place
+abbrev pub weighted : List ℕ → List ℕ → Outcome Place
+weighted weights ws = next (below (total weights) ws) (λ v left. accepted (placeOf weights v) left)
+
+-- the numbers of a list never fall
+abbrev pub Rising : List ℕ → Type 0
+Rising xs = (i j : ℕ) → i ≤ j → j < length xs → getD xs i 0 ≤ getD xs j 0

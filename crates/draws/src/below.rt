@@ -1,0 +1,48 @@
+// Draw below m.
+use words::Word;
+use words::Words;
+ghost use Prim.Native.Nat.{_<_};
+ghost use mathlib.Core.Path.{_≡_};
+ghost use mathlib.Core.Bool.{not};
+ghost use Rattle.words.specs.Stream.{stream};
+ghost use Rattle.draws.specs.Below.{skipped, below};
+ghost use Rattle.draws.specs.Answers.{belowSays};
+
+// What a draw below m gives.
+pub enum Below {
+    Value(u64),
+    Gone,
+}
+
+// Whether a word counts and is not skipped. One at most 2^64 - 1 - m always does, since 2^64 mod m is below m: only for the rare
+// others is that remainder found, as (2^64 - m) mod m.
+fn counts(m: u64, word: u64) -> bool
+    requires { ⌜ 0 < m ⌝ }
+    ensures { λ r. ⌜ r ≡ not (skipped m word) ⌝ }
+{
+    let sure = 0xffff_ffff_ffff_ffff - m;
+    if word <= sure {
+        return true;
+    }
+    let over = (sure + 1) % m;
+    word <= 0xffff_ffff_ffff_ffff - over
+}
+
+// A value below m, each for equally many words.
+pub fn draw_below(list: &[u64], words: &mut Words, m: u64) -> Below
+    requires { ⌜ 0 < m ⌝ }
+    ensures { λ r. ⌜ belowSays r (stream (now (list .entry)) (now (words .exit))) ≡ below m (stream (now (list .entry)) (now (words .entry))) ⌝ }
+{
+    loop {
+        match words::next_word(list, words) {
+            Word::Got(word) => {
+                if counts(m, word) {
+                    return Below::Value(word % m);
+                }
+            }
+            Word::Gone => {
+                return Below::Gone;
+            }
+        }
+    }
+}
