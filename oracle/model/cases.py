@@ -1,0 +1,398 @@
+#!/usr/bin/env python3
+"""A fixed set of cases: `cases.py N` writes about N, the limits among them."""
+
+import math
+import random
+import sys
+
+from model import bits_of, write_fields
+
+SEED = 20_250_101
+TOP = 2**64 - 1
+HALF = 2**63
+MAX_COUNT = 2**32 - 1
+LENGTHS = (0, 1, 2, 15, 16, 17, 255, 256, 257, 272, 273)
+LONG_LENGTHS = (4_095, 4_096, 4_097)
+SIZES = (0, 1, 2, 1_023, 1_024, 1_025)
+FANOUTS = (0, 1, 2, 16, 200, 4_096, 4_097)
+MAX_SAMPLES = (1.0, 1.5, 2.0, 2.5, 5e-324, math.inf, math.nan, 0.0, -0.0, -1.0, -math.inf)
+ALLOWED = (0, 1, 2, 99_999, 100_000, 100_001)
+DECAYING = {"max_samples": bits_of(2.0), "allowed": 100_000}
+SLOWLY_DECAYING = {"max_samples": bits_of(4_096.0), "allowed": 100_000}
+
+
+def case(operation, **fields):
+    return write_fields(operation, fields)
+
+
+# ---- Words ----
+
+def one_word(rng):
+    """Mostly any word; else small, just below the top, or at a half or quarter."""
+    kind = rng.randrange(20)
+    if kind == 0:
+        return rng.randrange(20)
+    if kind == 1:
+        return TOP - rng.randrange(20)
+    if kind == 2:
+        return rng.choice([HALF, HALF - 1, HALF + 1, HALF // 2, HALF // 2 - 1])
+    return rng.randrange(2**64)
+
+
+def words(rng, need, total=1):
+    """Mostly enough for `need` draws below `total` or less, and sometimes short."""
+    if rng.randrange(8) == 0:
+        return [one_word(rng) for _ in range(rng.randrange(need + 1))]
+    spare = need + 6 if total > 2**62 else need // 16 + 2
+    return [one_word(rng) for _ in range(need + spare)]
+
+
+# ---- Stakes ----
+
+def parts(rng, n, total):
+    """n stakes with this sum."""
+    cuts = sorted(rng.randrange(total + 1) for _ in range(n - 1))
+    return [b - a for a, b in zip([0] + cuts, cuts + [total])]
+
+
+def small_stakes(rng, n):
+    return [rng.randrange(6) for _ in range(n)]
+
+
+def equal_stakes(rng, n):
+    return [rng.choice([1, 1, 2, 3, 7, 10**9, TOP // max(n, 1)])] * n
+
+
+def realistic_stakes(rng, n):
+    """Lamports, heavy-tailed."""
+    return [int(10**6 * rng.paretovariate(0.8)) for _ in range(n)]
+
+
+def stakes_with_zeros(rng, n):
+    """Zeros first, last, in the middle or anywhere."""
+    stakes = realistic_stakes(rng, n)
+    zeros = rng.randrange(n + 1)
+    first = rng.choice([0, n - zeros, (n - zeros) // 2])
+    stakes[first:first + zeros] = [0] * zeros
+    if rng.randrange(3) == 0:
+        rng.shuffle(stakes)
+    return stakes
+
+
+def even_parts(rng, n):
+    """Multiples of one stake, so that many are exactly a whole number of seats."""
+    unit = rng.choice([1, 3, 10**6, 2**40])
+    return [unit * rng.randrange(1, 5) for _ in range(n)]
+
+
+def top_stakes(rng, n):
+    return parts(rng, n, TOP)
+
+
+def huge_stakes(rng, n):
+    """Often past the top."""
+    return [rng.choice([0, 0, 1, HALF, HALF - 1, TOP, TOP - 1]) for _ in range(n)]
+
+
+def over_stakes(rng, n):
+    return parts(rng, n, TOP + 1) if n > 1 else [TOP]
+
+
+SHAPES = 4 * [small_stakes, equal_stakes, realistic_stakes, stakes_with_zeros, even_parts]
+SHAPES += [top_stakes, top_stakes, huge_stakes, over_stakes]
+
+
+def length(rng):
+    """Mostly short, seldom one of the lengths at which the tree changes."""
+    kind = rng.randrange(60)
+    if kind == 0:
+        return rng.choice(LENGTHS)
+    if kind < 8:
+        return rng.choice([15, 16, 17, 33])
+    return rng.randrange(1, 12)
+
+
+def any_stakes(rng):
+    n = length(rng)
+    return rng.choice(SHAPES)(rng, n) if n > 0 else []
+
+
+def any_size(rng, least=0):
+    """k or bins."""
+    kind = rng.randrange(100)
+    if kind == 0:
+        return rng.choice(SIZES)
+    return rng.randrange(least, 25 if kind < 20 else 8)
+
+
+# ---- One random case of each operation ----
+
+def below(rng):
+    m = rng.choice([1, 2, 3, 10, 2**32, HALF, HALF + 1, TOP, rng.randrange(1, 2**64),
+                    rng.randrange(1, 100)])
+    return case("below", m=m, words=words(rng, 1, m))
+
+
+def fraction(rng):
+    return case("fraction", words=words(rng, 1))
+
+
+def weighted(rng):
+    weights = any_stakes(rng)
+    while not 1 <= sum(weights) <= TOP:
+        weights = any_stakes(rng)
+    return case("weighted", weights=weights, words=words(rng, 1, sum(weights)))
+
+
+def list_shuffle(rng):
+    items = any_stakes(rng)
+    return case("list_shuffle", list=items, words=words(rng, max(len(items) - 1, 0)))
+
+
+def iid(rng):
+    stakes, k = any_stakes(rng), any_size(rng)
+    return case("iid", stakes=stakes, k=k, words=words(rng, k, sum(stakes)))
+
+
+def over_bins(rng, operation, size, least):
+    stakes, number = any_stakes(rng), any_size(rng, least)
+    return case(operation, stakes=stakes, **{size: number},
+                words=words(rng, max(len(stakes) - 1, 0)),
+                words2=words(rng, number, sum(stakes)))
+
+
+def partition(rng):
+    return over_bins(rng, "partition", "bins", 0)
+
+
+def fa1_bins(rng):
+    return over_bins(rng, "fa1_bins", "k", 1)
+
+
+def fa1_draws(rng):
+    stakes, k = any_stakes(rng), any_size(rng, 1)
+    return case("fa1_draws", stakes=stakes, k=k, words=words(rng, k, sum(stakes)))
+
+
+def decaying_fields(rng, stakes):
+    """Mostly a `max_samples` and an allowance that are accepted."""
+    usual = rng.randrange(20) > 0
+    max_samples = rng.choice([1.5, 2.0, 2.5, 3.0, 8.0, math.inf] if usual else MAX_SAMPLES)
+    allowed = 100_000 if rng.randrange(8) else rng.choice(ALLOWED)
+    counts = [rng.choice([0, 0, 0, 1, 2, 3]) for _ in stakes]
+    if counts and rng.randrange(30) == 0:
+        counts[rng.randrange(len(counts))] = MAX_COUNT - rng.randrange(4)
+    return {"max_samples": bits_of(max_samples), "allowed": allowed, "counts": counts}
+
+
+def decaying(rng):
+    stakes, k = any_stakes(rng), any_size(rng)
+    return case("decaying", stakes=stakes, k=k, **decaying_fields(rng, stakes),
+                words=words(rng, 6 * k, sum(stakes)))
+
+
+def decaying_one(rng):
+    stakes = any_stakes(rng)
+    return case("decaying_one", stakes=stakes, **decaying_fields(rng, stakes),
+                words=words(rng, 12, sum(stakes)))
+
+
+def tree(rng):
+    return case("tree", stakes=any_stakes(rng))
+
+
+def shuffle(rng):
+    stakes = any_stakes(rng)
+    return case("shuffle", stakes=stakes, words=words(rng, len(stakes), sum(stakes)))
+
+
+def turbine(rng):
+    stakes = any_stakes(rng)
+    n = len(stakes)
+    fanout = rng.choice(FANOUTS) if rng.randrange(5) == 0 else rng.randrange(1, 6)
+    own = rng.randrange(n) if n and rng.randrange(20) else rng.choice([n, n + 1, TOP])
+    return case("turbine", stakes=stakes, fanout=fanout, own=own,
+                words=words(rng, n, sum(stakes)))
+
+
+def seed_number(rng):
+    return rng.choice([0, 1, 255, 256, HALF, TOP, rng.randrange(2**64)])
+
+
+def turbine_seed(rng):
+    return case("turbine_seed", slot=seed_number(rng), shred=seed_number(rng))
+
+
+def rotor_seed(rng):
+    return case("rotor_seed", slot=seed_number(rng), slice=seed_number(rng))
+
+
+OFTEN = [weighted, list_shuffle, iid, partition, fa1_bins, fa1_draws, decaying,
+         decaying_one, shuffle, turbine]
+GENERATORS = 6 * OFTEN + 3 * [below, tree] + [fraction, turbine_seed, rotor_seed]
+
+
+# ---- The limits ----
+
+def sampler_cases(stakes, k, supply):
+    """One case of each sampler over the same list; `supply` gives words."""
+    counts = [0] * len(stakes)
+    yield case("iid", stakes=stakes, k=k, words=supply(k))
+    yield case("partition", stakes=stakes, bins=k, words=supply(len(stakes)), words2=supply(k))
+    yield case("fa1_bins", stakes=stakes, k=k, words=supply(len(stakes)), words2=supply(k))
+    yield case("fa1_draws", stakes=stakes, k=k, words=supply(k))
+    yield case("decaying", stakes=stakes, k=k, **SLOWLY_DECAYING, counts=counts,
+               words=supply(2 * k))
+    yield case("decaying_one", stakes=stakes, **SLOWLY_DECAYING, counts=counts, words=supply(2))
+
+
+def plenty(rng):
+    return lambda need: [rng.randrange(2**64) for _ in range(need + need // 4 + 20)]
+
+
+def length_cases(rng):
+    """Every length for every operation over a list; the long ones once."""
+    supply = plenty(rng)
+    for n in LENGTHS + LONG_LENGTHS:
+        stakes = realistic_stakes(rng, n)
+        yield from sampler_cases(stakes, 3, supply)
+        yield case("list_shuffle", list=list(range(n)), words=supply(n))
+        yield case("shuffle", stakes=stakes, words=supply(n))
+        yield case("turbine", stakes=stakes, fanout=16, own=n // 2, words=supply(n))
+        if n <= 4_096:
+            yield case("tree", stakes=stakes)
+
+
+def size_cases(rng):
+    for k in SIZES:
+        for stakes in ([3, 0, 10**9, 7], equal_stakes(rng, 7), top_stakes(rng, 5), [2_048] * 3):
+            yield from sampler_cases(stakes, k, plenty(rng))
+
+
+def sum_cases(rng):
+    """Sums at the top and past it, alone and with zeros, and no stake at all."""
+    lists = ([0], [0] * 5, [TOP], [TOP, 0], [0, TOP], [TOP, 1], [TOP - 1, 1], [TOP - 1, 2],
+             [HALF], [HALF, HALF - 1], [HALF, HALF], [HALF, 0, HALF], [TOP, 1, 0], [TOP, TOP],
+             [TOP, TOP, 2], [HALF, HALF, 1, 1], [TOP - 1, 2, 1, 1])
+    for stakes in lists:
+        for k in (0, 1, 2, 3):
+            yield from sampler_cases(stakes, k, plenty(rng))
+        yield case("tree", stakes=stakes)
+        yield case("shuffle", stakes=stakes, words=plenty(rng)(len(stakes)))
+        yield case("turbine", stakes=stakes, fanout=2, own=0, words=plenty(rng)(len(stakes)))
+
+
+def worked_cases(rng):
+    """The lists of the worked numbers."""
+    for stakes, k in (([1] * 49, 49), ([HALF], 2), ([5, 3, 2], 4), ([3, 0, 4], 2), ([5], 4),
+                      ([4], 3), ([6], 4), ([5], 3), ([7], 4), ([1] * 4, 3), ([1] * 5, 4)):
+        yield from sampler_cases(stakes, k, plenty(rng))
+    yield case("below", m=10, words=[13])
+    yield case("below", m=10, words=[18446744073709551610, 18446744073709551609])
+    yield case("shuffle", stakes=[2, 0, 3], words=[4, 1, 0])
+    for own in range(3):
+        yield case("turbine", stakes=[2, 0, 3], fanout=2, own=own, words=[4, 1, 0])
+
+
+def whole_seat_cases(rng):
+    """Stakes of exactly one or two seats, where a rounded floor may fall short."""
+    for n in range(40, 110):
+        stakes = equal_stakes(rng, n)
+        for k in (n, 2 * n):
+            yield case("fa1_draws", stakes=stakes, k=k, words=plenty(rng)(k))
+        yield case("fa1_bins", stakes=stakes, k=n, words=plenty(rng)(n), words2=plenty(rng)(n))
+
+
+def no_seat_cases(_rng):
+    """No bins and no seats, over lists that are turned down as well."""
+    for stakes in ([], [0], [0, 0], [TOP, 1], [HALF, HALF, 5], [1] * 4_097, [3, 4]):
+        yield case("partition", stakes=stakes, bins=0, words=[], words2=[])
+        yield case("iid", stakes=stakes, k=0, words=[])
+        yield case("fa1_bins", stakes=stakes, k=0, words=[], words2=[])
+        yield case("fa1_draws", stakes=stakes, k=0, words=[])
+        yield case("decaying", stakes=stakes, k=0, **DECAYING, counts=[0] * len(stakes), words=[])
+
+
+def dry_cases(_rng):
+    """Words that run out at every place; small sums, so that none is skipped."""
+    order, seats = [1, 0, 3, 2], [4, 1, 6, 3, 0]
+    stakes, tries = [2, 0, 3, 1, 5], [0, 5, 7, HALF, 9, 3, 5, 2**61, 3, HALF]
+    for n in range(len(seats) + 1):
+        yield case("below", m=10, words=[TOP] * n)
+        yield case("iid", stakes=stakes, k=5, words=seats[:n])
+        yield case("fa1_draws", stakes=stakes, k=5, words=seats[:n])
+        yield case("shuffle", stakes=stakes, words=seats[:n])
+        yield case("turbine", stakes=stakes, fanout=2, own=3, words=seats[:n])
+        yield case("list_shuffle", list=stakes, words=order[:n])
+        for operation, size in (("partition", "bins"), ("fa1_bins", "k")):
+            full = {"stakes": stakes, size: 4}
+            yield case(operation, **full, words=order[:n], words2=seats)
+            yield case(operation, **full, words=order, words2=seats[:n])
+    for n in range(len(tries) + 1):
+        yield case("decaying", stakes=stakes, k=4, **DECAYING, counts=[1] * 5, words=tries[:n])
+        yield case("decaying_one", stakes=stakes, **DECAYING, counts=[2] * 5, words=tries[:n])
+
+
+def decaying_cases(rng):
+    """Every `max_samples`, allowance and stored count at the limits."""
+    base = {"stakes": [3, 0, 4], "counts": [1, 0, 1]}
+    for max_samples in MAX_SAMPLES:
+        for allowed in ALLOWED:
+            settings = {"max_samples": bits_of(max_samples), "allowed": allowed}
+            both_cases = {**base, **settings}
+            yield from decaying_pair(both_cases, 2, plenty(rng)(20))
+    for k in (0, 1, 2, 5):
+        for under in range(7):
+            counts = [0, 0, MAX_COUNT - under]
+            settings = {**base, "max_samples": bits_of(math.inf), "allowed": 100_000}
+            yield from decaying_pair({**settings, "counts": counts}, k, plenty(rng)(20))
+
+
+def decaying_pair(fields, k, supply):
+    """The committee and the one seat of the same fields."""
+    names = ("max_samples", "allowed", "counts")
+    rest = {name: fields[name] for name in names}
+    yield case("decaying", stakes=fields["stakes"], k=k, **rest, words=supply)
+    yield case("decaying_one", stakes=fields["stakes"], **rest, words=supply)
+
+
+def last_try_cases(_rng):
+    """The last allowed try accepted, rejected, and cut before its fraction."""
+    for allowed in (1, 2, 5, 100_000):
+        rejected = [0, 0] * (allowed - 1)
+        for last in ([0, HALF], [0, HALF - 1], [0, HALF - 1, 0, HALF], [0], []):
+            fields = {"stakes": [1], "max_samples": bits_of(2.0), "allowed": allowed,
+                      "counts": [1]}
+            yield case("decaying_one", **fields, words=rejected + last)
+    for half in (HALF, HALF - 1):
+        yield case("decaying", stakes=[1], k=1, max_samples=bits_of(2.0), allowed=1,
+                   counts=[1], words=[0, half])
+
+
+def view_cases(rng):
+    for fanout in FANOUTS:
+        for n in (1, 2, 17, 40):
+            stakes, supply = stakes_with_zeros(rng, n), plenty(rng)(n)
+            for own in (0, n - 1, n, n + 1):
+                yield case("turbine", stakes=stakes, fanout=fanout, own=own, words=supply)
+
+
+LIMITS = (length_cases, size_cases, sum_cases, worked_cases, whole_seat_cases, no_seat_cases,
+          dry_cases, decaying_cases, last_try_cases, view_cases)
+
+
+def cases(n):
+    """About n cases: the limits, all of them for any n, then random ones."""
+    rng = random.Random(SEED)
+    lines = [line for limit in LIMITS for line in limit(rng)]
+    while len(lines) < n:
+        lines.append(rng.choice(GENERATORS)(rng))
+    return lines
+
+
+def main():
+    sys.stdout.writelines(line + "\n" for line in cases(int(sys.argv[1])))
+
+
+if __name__ == "__main__":
+    main()
