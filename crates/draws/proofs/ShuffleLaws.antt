@@ -1,12 +1,12 @@
 -- Laws of the list shuffle: one draw at a time, and that it gives a permutation.
 use Prim.Native.Nat.{ℕ, zero, suc, _+_, _-_, _≤_, _<_}
-use mathlib.Core.Path.{_≡_, refl}
+use mathlib.Core.Path.{_≡_}
 use mathlib.Core.List.{List, [], _∷_}
 use native.Mathlib.Omega.{arith}
 use lib.ListN.{length}
 use Rattle.laws.specs.Orders.{swap, Permutation}
 use Rattle.laws.proofs.Orders.{length-swap, permutation-swap, permutation-self, permutation-then}
-use Rattle.words.specs.Outcome.{Outcome, refused, accepted}
+use Rattle.words.specs.Outcome.{refused, accepted}
 use Rattle.words.proofs.Outcomes.{Went, went}
 use Rattle.draws.specs.Below.{below}
 use Rattle.draws.specs.Shuffle.{shuffleFrom, shuffle}

@@ -1,9 +1,9 @@
 -- Laws of counting the numbers below a bound.
-use Prim.Native.Nat.{ℕ, zero, suc, _+_, _*_, _/_, _%_, _≤_, _<_}
-use mathlib.Core.Path.{_≡_, refl, sym, ap, ap₂, _∙_}
+use Prim.Native.Nat.{ℕ, zero, suc, _+_, _*_, _/_, _%_, _<_}
+use mathlib.Core.Path.{_≡_, refl, ap, ap₂, _∙_}
 use mathlib.Core.Bool.{Bool, true, false, cond}
-use lib.Dec.{ltb, eqb}
-use borrow.Author.Tests.{lt-ltb, le-ltb, ltb-true, ltb-false, eq-eqb, ne-eqb, eqb-true, eqb-false}
+use lib.Dec.{eqb}
+use borrow.Author.Tests.{ne-eqb, eqb-true, eqb-false}
 use native.Mathlib.Nat.{add-zero, zero-mul, suc-mul, mul-add-mod-self-right, mod-eq-of-lt, mul-add-div-right, div-eq-of-lt, div-lt-iff-lt-mul}
 use native.Mathlib.Omega.{arith}
 use Rattle.laws.specs.Counts.{countBelow}

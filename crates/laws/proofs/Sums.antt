@@ -1,10 +1,10 @@
 -- Laws of sums and running sums.
 use Prim.Native.Nat.{ℕ, zero, suc, _+_, _^_, _≤_, _<_}
-use mathlib.Core.Path.{_≡_, refl, sym, ap, _∙_}
+use mathlib.Core.Path.{_≡_, refl, ap}
 use mathlib.Core.List.{List, [], _∷_}
 use native.Mathlib.Omega.{arith}
 use lib.ListN.{length, getD, take}
-use Rattle.laws.specs.Sums.{total, runningFrom, runningSums}
+use Rattle.laws.specs.Sums.{total, runningFrom}
 
 -- one number more
 pub total-take-suc : (xs : List ℕ) (i : ℕ) → i < length xs → total (take (suc i) xs) ≡ total (take i xs) + getD xs i 0

@@ -1,12 +1,6 @@
--- Counts.
+-- Counting.
 use Prim.Native.Nat.{ℕ, zero, suc, _+_}
 use mathlib.Core.Bool.{Bool, cond}
-use mathlib.Core.List.{List}
-use Rattle.laws.specs.Sums.{sumOf}
-
--- how many elements pass a test
-abbrev pub countIn : {A : Type 0} → (A → Bool) → List A → ℕ
-countIn test xs = sumOf (λ x. cond (test x) 1 0) xs
 
 -- how many of the numbers below n pass a test; it stays shut, since n may be 2^64
 unfoldable pub countBelow : ℕ → (ℕ → Bool) → ℕ

@@ -1,6 +1,5 @@
 -- `draws::below::counts` meets its contract.
-use Prim.Native.Nat.{_-_, _+_, _%_, _^_}
-use mathlib.Core.Path.{_≡_, sym}
+use Prim.Native.Nat.{_-_, _+_, _^_}
 use native.Mathlib.Nat.{mod-lt}
 use native.Mathlib.Omega.{arith}
 use Rattle.draws.proofs.BelowLaws.{low-counts, last-word}

@@ -1,5 +1,4 @@
 -- `draws::below::draw_below` meets its contract. The invariant: a draw from the words that are left is the draw that was asked for.
-use Prim.Native.Nat.{_<_}
 use mathlib.Core.Path.{_≡_, sym, ap, _∙_}
 use mathlib.Core.List.{_∷_, []}
 use native.Mathlib.Omega.{arith}

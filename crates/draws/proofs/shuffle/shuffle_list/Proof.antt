@@ -1,5 +1,5 @@
 -- `draws::shuffle::shuffle_list` meets its contract. The invariant: shuffling on from place i gives what the whole shuffle gives.
-use Prim.Native.Nat.{ℕ, _≤_, _<_, _-_, _+_}
+use Prim.Native.Nat.{_≤_, _<_, _-_, _+_}
 use mathlib.Core.Path.{_≡_, sym, ap, _∙_}
 use native.Mathlib.Omega.{arith}
 use denote.Ref.{now}

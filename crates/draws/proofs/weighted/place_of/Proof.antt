@@ -1,9 +1,7 @@
 -- `draws::weighted::place_of` meets its contract.
-use mathlib.Core.Path.{_≡_, sym}
 use native.Mathlib.Omega.{arith}
 use denote.Ref.{now}
 use Rattle.draws.proofs.WeightedLaws.{Found, found, running-rising}
-use borrow.Author.Needs.{needs}
 use Rattle.draws.proofs.weighted.place_of.Statement.{statement}
 use Rattle.draws.proofs.weighted.place_of.Tie as tie
 

@@ -1,6 +1,6 @@
 -- `draws::weighted::running_sums` meets its contract. The invariant: the first i running sums stand before what the buffer held.
-use Prim.Native.Nat.{ℕ, suc, _≤_, _<_, _-_, _+_, _^_}
-use mathlib.Core.Path.{_≡_, refl, sym, ap, _∙_}
+use Prim.Native.Nat.{ℕ, _≤_, _<_, _-_, _+_, _^_}
+use mathlib.Core.Path.{_≡_, _∙_}
 use mathlib.Core.List.{List, _++_}
 use native.Mathlib.Numerals.{add-one}
 use native.Mathlib.Omega.{arith}
