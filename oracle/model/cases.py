@@ -283,9 +283,11 @@ def sum_cases(rng):
 
 
 def worked_cases(rng):
-    """The lists of the worked numbers."""
+    """The lists of the worked numbers, and those of docs/DIFFERENCES.md."""
     for stakes, k in (([1] * 49, 49), ([HALF], 2), ([5, 3, 2], 4), ([3, 0, 4], 2), ([5], 4),
-                      ([4], 3), ([6], 4), ([5], 3), ([7], 4), ([1] * 4, 3), ([1] * 5, 4)):
+                      ([4], 3), ([6], 4), ([5], 3), ([7], 4), ([1] * 4, 3), ([1] * 5, 4),
+                      ([15, 7], 22), ([10679670600444, 2426574706391], 956),
+                      ([HALF, HALF // 2], 4), ([2**60 - 1, 3 * 2**59, 3 * 2**59, 1], 4)):
         yield from sampler_cases(stakes, k, plenty(rng))
     yield case("below", m=10, words=[13])
     yield case("below", m=10, words=[18446744073709551610, 18446744073709551609])

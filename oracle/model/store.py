@@ -50,11 +50,11 @@ def stored_case(functions, line):
     return f"{number} {functions[operation]} {given} answer: {stored_answer(operation, fields)}\n"
 
 
-def chosen(functions, of_each, long):
+def chosen(compared, functions, of_each, long):
     """The first short cases of each operation, and those long ones that are asked for."""
     lines = []
     for operation in functions:
-        own = [line for line in cases(COMPARED) if line.split()[0] == operation]
+        own = [line for line in compared if line.split(" ", 1)[0] == operation]
         lines += [line for line in own if len(line) <= LONGEST][:of_each]
         lines += [line for line in own if long(operation, line)]
     return "".join(stored_case(functions, line) for line in lines)
@@ -67,17 +67,20 @@ def is_whole_shuffle(operation, line):
 
 def lists():
     """Each stored list's path and its text."""
-    return {CRATES / "draws_cases" / "stdin": chosen(DRAWS, 100, is_whole_shuffle)}
+    compared = cases(COMPARED)
+    return {CRATES / "draws_cases" / "stdin": chosen(compared, DRAWS, 100, is_whole_shuffle)}
 
 
 def main():
-    stale = [path for path, text in lists().items() if not path.exists() or path.read_text() != text]
-    if sys.argv[1:] == ["--check"]:
-        for path in stale:
-            print("not what the model gives:", path.relative_to(CRATES.parent))
-        sys.exit(1 if stale else 0)
-    for path, text in lists().items():
-        path.write_text(text)
+    texts = lists()
+    if sys.argv[1:] != ["--check"]:
+        for path, text in texts.items():
+            path.write_text(text)
+        return
+    stale = [path for path, text in texts.items() if not path.exists() or path.read_text() != text]
+    for path in stale:
+        print("not what the model gives:", path.relative_to(CRATES.parent))
+    sys.exit(1 if stale else 0)
 
 
 if __name__ == "__main__":
