@@ -3,8 +3,8 @@
 
 A difference is explained if the condition of a known kind holds of the case and
 the oracle's answer is the one that the known kinds, taken together, lead to.
-Ends with 1 if a difference is unexplained or, from 20,000 cases on, if a known
-kind never showed.
+Ends with 1 if a difference is unexplained, if a known kind has no entry in
+docs/DIFFERENCES.md or, from 20,000 cases on, if a known kind never showed.
 """
 
 import math
@@ -13,6 +13,7 @@ import sys
 from collections import Counter
 from contextlib import contextmanager
 from fractions import Fraction
+from pathlib import Path
 from typing import Callable, NamedTuple
 from unittest.mock import patch
 
@@ -21,6 +22,7 @@ from cases import cases
 from model import MAX_COUNT, MAX_FANOUT, MAX_LIST, MAX_SEATS, MAX_TRIES, WORD_END, Words
 
 ALL_KINDS_FROM = 20_000
+DIFFERENCES = Path(__file__).resolve().parents[2] / "docs" / "DIFFERENCES.md"
 DECAYING = {"decaying", "decaying_one"}
 FA1 = {"fa1_bins", "fa1_draws"}
 OWN_SUMS = FA1 | {"partition"}
@@ -302,6 +304,12 @@ def print_kinds(by_outcome):
         print(f"{by_outcome[kind.name]:>7}  {kind.name}: {kind.reason}")
 
 
+def without_entry():
+    """The known kinds that docs/DIFFERENCES.md does not name."""
+    entries = DIFFERENCES.read_text()
+    return [kind.name for kind in KINDS if f"`{kind.name}`" not in entries]
+
+
 def main():
     oracle, n = sys.argv[1], int(sys.argv[2])
     lines = cases(n)
@@ -312,9 +320,11 @@ def main():
     print_table(counts)
     print_kinds(by_outcome)
     never = [kind.name for kind in KINDS if not by_outcome[kind.name]]
+    missing = without_entry()
     print(f"\n{len(lines)} cases, {by_outcome['agreeing']} agreeing, "
-          f"{by_outcome[None]} unexplained; kinds never seen: {', '.join(never) or 'none'}")
-    sys.exit(1 if by_outcome[None] or (never and n >= ALL_KINDS_FROM) else 0)
+          f"{by_outcome[None]} unexplained; kinds never seen: {', '.join(never) or 'none'}; "
+          f"kinds without an entry: {', '.join(missing) or 'none'}")
+    sys.exit(1 if by_outcome[None] or missing or (never and n >= ALL_KINDS_FROM) else 0)
 
 
 if __name__ == "__main__":

@@ -10,8 +10,12 @@ use lib.Seq.{take-length, take-at}
 use borrow.Author.Tests.{ltb-true, ltb-false, lt-ltb, le-ltb}
 use Rattle.laws.specs.Sums.{total, runningFrom, runningSums}
 use Rattle.laws.proofs.Sums.{total-take-suc, length-running, running-at, running-rises}
+use Rattle.words.specs.Outcome.{accepted}
+use Rattle.words.proofs.Outcomes.{Went, went}
 use Rattle.draws.specs.declared.weighted.Place.{Place}
-use Rattle.draws.specs.Weighted.{firstAbove, chosen, remainder, placeOf, Rising}
+use Rattle.draws.specs.Below.{below}
+use Rattle.draws.specs.Weighted.{firstAbove, chosen, remainder, placeOf, weighted, Rising}
+use Rattle.draws.proofs.BelowLaws.{drawn-lt}
 
 -- r is the smallest place whose number exceeds v: no number before it does, and the number there does, if there is one
 pub first-above-is : (xs : List ℕ) (v r : ℕ) → r ≤ length xs → ((k : ℕ) → k < r → getD xs k 0 ≤ v) → (r < length xs → v < getD xs r 0) → r ≡ firstAbove xs v
@@ -101,3 +105,15 @@ last-sum (x ∷ xs) h =
 pub some-weight : (weights : List ℕ) → 0 < total weights → 0 < length weights
 some-weight [] h = absurd (omega arith)
 some-weight (x ∷ xs) h = omega arith
+
+-- what an accepted weighted draw gives: a place of the list, and a remainder below the weight there
+pub record Placed (weights : List ℕ) (p : Place) : Type 0 where
+  pub within : p .at < length weights
+  pub below-weight : p .remainder < getD weights (p .at) 0
+
+pub placed : (weights ws : List ℕ) {p : Place} {left : List ℕ} → 0 < total weights → weighted weights ws ≡ accepted p left → Placed weights p
+placed weights ws {p} {left} h e =
+    let g : Went (below (total weights) ws) (λ v left. accepted (placeOf weights v) left) p left = went _ _ e in
+    let l : g .value < total weights = drawn-lt (total weights) h ws (g .first) in
+    let q : placeOf weights (g .value) ≡ p = cc in
+    rw (← q) (record { within = chosen-is weights (g .value) l .within; below-weight = remainder-lt weights (g .value) l })

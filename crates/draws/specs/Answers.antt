@@ -8,6 +8,7 @@ use Rattle.draws.specs.declared.below.Below.{Below}
 use Rattle.draws.specs.declared.below.Below.the-variants as below
 use Rattle.draws.specs.declared.fraction.Fraction.{Fraction}
 use Rattle.draws.specs.declared.fraction.Fraction.the-variants as fraction
+use Rattle.draws.specs.Fraction.{OfWord}
 use Rattle.draws.specs.declared.weighted.Place.{Place}
 use Rattle.draws.specs.declared.weighted.Weighted.{Weighted}
 use Rattle.draws.specs.declared.weighted.Weighted.the-variants as weighted
@@ -17,19 +18,24 @@ use Rattle.draws.specs.declared.shuffle.Shuffled.the-variants as shuffle
 -- of `draw_below`
 abbrev pub belowSays : Below → List ℕ → Outcome ℕ
 belowSays (below.Value v) left = accepted v left
-belowSays below.Gone left = refused noWordLeft
+belowSays below.NoWord left = refused noWordLeft
 
 -- of `draw_fraction`
 abbrev pub fractionSays : Fraction → List ℕ → Outcome Float
 fractionSays (fraction.Value x) left = accepted x left
-fractionSays fraction.Gone left = refused noWordLeft
+fractionSays fraction.NoWord left = refused noWordLeft
+
+-- and what it promises of the value
+abbrev pub fractionPromises : Fraction → Type 0
+fractionPromises (fraction.Value x) = OfWord x
+fractionPromises fraction.NoWord = Unit {0}
 
 -- of `draw_weighted`
 abbrev pub weightedSays : Weighted → List ℕ → Outcome Place
 weightedSays (weighted.At p) left = accepted p left
-weightedSays weighted.Gone left = refused noWordLeft
+weightedSays weighted.NoWord left = refused noWordLeft
 
 -- of `shuffle_list`, with what the list then holds
 abbrev pub shuffledSays : Shuffled → List ℕ → List ℕ → Outcome (List ℕ)
 shuffledSays shuffled.Done items left = accepted items left
-shuffledSays shuffled.Gone items left = refused noWordLeft
+shuffledSays shuffled.NoWord items left = refused noWordLeft

@@ -31,3 +31,8 @@ pub record Exact (w : ℕ) (r : Float) : Type 0 where
   pub exact : HasValue r false (w / 2 ^ 11) (2 ^ 53)
   pub low : T (le zeroF r)
   pub high : T (lt r oneF)
+
+-- x is the fraction of a word
+pub record OfWord (x : Float) : Type 0 where
+  pub word : ℕ
+  pub exact : Exact word x

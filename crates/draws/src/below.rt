@@ -11,7 +11,7 @@ ghost use Rattle.draws.specs.Answers.{belowSays};
 // What a draw below m gives.
 pub enum Below {
     Value(u64),
-    Gone,
+    NoWord,
 }
 
 // Whether a word counts and is not skipped. One at most 2^64 - 1 - m always does, since 2^64 mod m is below m: only for the rare
@@ -40,8 +40,8 @@ pub fn draw_below(list: &[u64], words: &mut Words, m: u64) -> Below
                     return Below::Value(word % m);
                 }
             }
-            Word::Gone => {
-                return Below::Gone;
+            Word::NoWord => {
+                return Below::NoWord;
             }
         }
     }

@@ -10,7 +10,7 @@ ghost use Rattle.draws.specs.Answers.{shuffledSays};
 // How a shuffle ends.
 pub enum Shuffled {
     Done,
-    Gone,
+    NoWord,
 }
 
 // Shuffles a list in place. Where the words run out it is left partly shuffled: callers shuffle a list of their own.
@@ -27,8 +27,8 @@ pub fn shuffle_list(list: &[u64], words: &mut Words, items: &mut [u64]) -> Shuff
                 items[j] = item;
                 i += 1;
             }
-            Below::Gone => {
-                return Shuffled::Gone;
+            Below::NoWord => {
+                return Shuffled::NoWord;
             }
         }
     }

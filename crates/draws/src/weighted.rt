@@ -20,7 +20,7 @@ pub struct Place {
 // What a weighted draw gives.
 pub enum Weighted {
     At(Place),
-    Gone,
+    NoWord,
 }
 
 // Writes the running sums of the weights to the front of sums.
@@ -78,6 +78,6 @@ pub fn draw_weighted(list: &[u64], words: &mut Words, weights: &[u64], sums: &[u
     let sum = sums[sums.len() - 1];
     match below::draw_below(list, words, sum) {
         Below::Value(v) => Weighted::At(place_of(weights, sums, v)),
-        Below::Gone => Weighted::Gone,
+        Below::NoWord => Weighted::NoWord,
     }
 }

@@ -116,7 +116,7 @@ fn judge_below(list: &[u64], m: u64, e: Expected, wanted: &[u64; 2]) -> Verdict
             let read = words_read(list, &words);
             accepted(e, v == wanted[0] && read == wanted[1])
         }
-        Below::Gone => refused(e),
+        Below::NoWord => refused(e),
     }
 }
 
@@ -151,7 +151,7 @@ fn judge_fraction(list: &[u64], e: Expected, wanted: &[u64; 2]) -> Verdict
             let read = words_read(list, &words);
             accepted(e, is_fraction(x, wanted[0]) && read == wanted[1])
         }
-        Fraction::Gone => refused(e),
+        Fraction::NoWord => refused(e),
     }
 }
 
@@ -205,7 +205,7 @@ fn judge_weighted(
                 place.at as u64 == wanted[0] && place.remainder == wanted[1] && read == wanted[2],
             )
         }
-        Weighted::Gone => refused(e),
+        Weighted::NoWord => refused(e),
     }
 }
 
@@ -267,7 +267,7 @@ fn judge_shuffle(list: &[u64], items: &mut [u64], x: ExpectedList, wanted: &[u64
             let read = words_read(list, &words);
             accepted(e, cases::same(items, wanted) && read == x.read)
         }
-        Shuffled::Gone => refused(e),
+        Shuffled::NoWord => refused(e),
     }
 }
 

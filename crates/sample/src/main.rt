@@ -47,7 +47,7 @@ fn show_below(list: &[u64], words: &mut Words, m: u64)
             print_number(v);
             print(b"\n");
         }
-        Below::Gone => {
+        Below::NoWord => {
             print(b": no word left\n");
         }
     }
@@ -62,7 +62,7 @@ fn show_fraction(list: &[u64], words: &mut Words) {
                 print(b"a fraction: at least one half\n");
             }
         }
-        Fraction::Gone => {
+        Fraction::NoWord => {
             print(b"a fraction: no word left\n");
         }
     }
@@ -87,7 +87,7 @@ fn show_seats(list: &[u64], words: &mut Words, stakes: &[u64], sums: &[u64], k: 
             Weighted::At(place) => {
                 print_seat(place);
             }
-            Weighted::Gone => {
+            Weighted::NoWord => {
                 print(b"a seat: no word left\n");
             }
         }
@@ -120,7 +120,7 @@ fn show_order(list: &[u64], words: &mut Words) {
         Shuffled::Done => {
             print_list(b"an order:", &order);
         }
-        Shuffled::Gone => {
+        Shuffled::NoWord => {
             print(b"an order: no word left\n");
         }
     }

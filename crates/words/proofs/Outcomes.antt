@@ -4,7 +4,7 @@ use mathlib.Core.Path.{_≡_, refl, sym, ap, _∙_}
 use mathlib.Core.List.{List, [], _∷_}
 use native.Mathlib.Omega.{arith}
 use Rattle.words.specs.declared.Word.{Word}
-use Rattle.words.specs.declared.Word.the-variants.{Got, Gone}
+use Rattle.words.specs.declared.Word.the-variants.{Got, NoWord}
 use Rattle.words.specs.Refusals.{noWordLeft}
 use Rattle.words.specs.Outcome.{Outcome, refused, accepted, next, read}
 use Rattle.words.specs.Answers.{wordSays}
@@ -33,5 +33,5 @@ pub got : (r : Word) (w : ℕ) (left s : List ℕ) → wordSays r left ≡ read 
 got r w left s e t = read-some w left s (sym (ap (λ (x : Word). wordSays x left) t) ∙ e)
 
 -- no word was left
-pub gone : (r : Word) (left s : List ℕ) → wordSays r left ≡ read s → r ≡ Gone → s ≡ []
-gone r left s e t = read-none s (sym (ap (λ (x : Word). wordSays x left) t) ∙ e)
+pub no-word : (r : Word) (left s : List ℕ) → wordSays r left ≡ read s → r ≡ NoWord → s ≡ []
+no-word r left s e t = read-none s (sym (ap (λ (x : Word). wordSays x left) t) ∙ e)

@@ -14,7 +14,7 @@ pub type Words = [u64; 1];
 // What reading a word gives.
 pub enum Word {
     Got(u64),
-    Gone,
+    NoWord,
 }
 
 // The words of the list from the cursor on. Past the end of the list no word is left.
@@ -41,7 +41,7 @@ pub fn next_word(list: &[u64], words: &mut Words) -> Word
         words[0] = (at + 1) as u64;
         Word::Got(list[at])
     } else {
-        Word::Gone
+        Word::NoWord
     }
 }
 

@@ -6,7 +6,7 @@ use borrow.Author.Tests.{not-true, not-false}
 use denote.Ref.{now}
 use lib.ListN.{length}
 use Rattle.words.specs.Stream.{stream}
-use Rattle.words.proofs.Outcomes.{got, gone}
+use Rattle.words.proofs.Outcomes.{got, no-word}
 use Rattle.draws.specs.Below.{below}
 use Rattle.draws.proofs.BelowLaws.{takes, skips}
 use borrow.Author.Needs.{needs}
@@ -31,7 +31,7 @@ some c = let n = c .before .before .next-word in got (n .result) _ _ _ (n .ensur
 none : (c : tie.After-enum-told Inv-loop μ-loop) →
     let l = c .before .before .before .before in
     stream (now (l .before .before .args .list)) (l .loop .words) ≡ []
-none c = let n = c .before .before .next-word in gone (n .result) _ _ (n .ensures) (c .enum-told .given .1)
+none c = let n = c .before .before .next-word in no-word (n .result) _ _ (n .ensures) (c .enum-told .given .1)
 
 loop-holds : tie.Need-loop-holds Inv-loop μ-loop
 loop-holds c = search needs

@@ -16,10 +16,12 @@ enum-told : tie.Need-enum-told
 enum-told c = search needs
 
 returns : tie.Need-returns
-returns c = let w = c .before .before in rw (← w .before .before .next-word .ensures, w .word .given .1, c .fraction-of .ensures .is)
+returns c =
+    let w = c .before .before in
+    (rw (← w .before .before .next-word .ensures, w .word .given .1, c .fraction-of .ensures .is), record { word = w .word .given .0 .0; exact = c .fraction-of .ensures })
 
 returns-2 : tie.Need-returns-2
-returns-2 c = rw (← c .before .before .next-word .ensures, c .enum-told .given .1)
+returns-2 c = (rw (← c .before .before .next-word .ensures, c .enum-told .given .1), tt)
 
 pub draw-fraction-spec : {M : Type 1} → statement M
 draw-fraction-spec =
