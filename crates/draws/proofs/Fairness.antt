@@ -12,7 +12,7 @@ use Rattle.laws.specs.Sums.{total, runningFrom}
 use Rattle.laws.specs.Counts.{countBelow}
 use Rattle.laws.proofs.Counts.{count-same, count-const, count-add, count-none, count-mod, count-div}
 use Rattle.draws.specs.Below.{skipped}
-use Rattle.draws.specs.Weighted.{firstAbove, chosen}
+use Rattle.draws.specs.Weighted.{firstAbove, chosen, weightWhere}
 use Rattle.draws.proofs.BelowLaws.{low-counts, high-skipped}
 
 -- "Draw below m": each value below m is the answer for exactly floor(2^64 / m) words that are not skipped
@@ -56,11 +56,6 @@ later : (x : ℕ) (xs : List ℕ) (v : ℕ) → chosen (x ∷ xs) (x + v) ≡ su
 later x xs v =
     let e : 0 + x ≡ x + 0 = omega arith in
     rw (le-ltb (x + v) (0 + x) (omega arith), e) (ap suc (shift x 0 xs v))
-
--- the sum of the weights whose places pass a test
-abbrev pub weightWhere : List ℕ → (ℕ → Bool) → ℕ
-weightWhere [] t = 0
-weightWhere (x ∷ xs) t = cond (t 0) x 0 + weightWhere xs (λ p. t (suc p))
 
 -- "Weighted draw": of the values below the sum, exactly as many choose a place that passes a test as the weights of those places count
 pub counting : (weights : List ℕ) (t : ℕ → Bool) → countBelow (total weights) (λ v. t (chosen weights v)) ≡ weightWhere weights t

@@ -10,18 +10,8 @@ use Rattle.laws.proofs.Orders.{source, length-swap, swap-at, swap-twice, distin
 use Rattle.words.specs.Outcome.{accepted}
 use Rattle.words.proofs.Outcomes.{Went, went}
 use Rattle.draws.specs.Below.{below}
-use Rattle.draws.specs.Shuffle.{shuffleFrom, shuffle}
+use Rattle.draws.specs.Shuffle.{shuffleFrom, shuffle, swaps, Draws, none, more}
 use Rattle.draws.proofs.BelowLaws.{drawn-lt}
-
--- the swaps of given draws, from place i on
-abbrev pub swaps : ℕ → List ℕ → List ℕ → List ℕ
-swaps i [] xs = xs
-swaps i (j ∷ js) xs = swaps (i + 1) js (swap 0 xs i j)
-
--- draws that a shuffle can make from place i on: each below its place + 1
-pub data Draws : ℕ → List ℕ → Type 0 where
-  none : {i : ℕ} → Draws i []
-  more : {i j : ℕ} {js : List ℕ} → j < i + 1 → Draws (i + 1) js → Draws i (j ∷ js)
 
 -- what an accepted shuffle went through
 pub record Swapped (m i : ℕ) (xs ys : List ℕ) : Type 0 where

@@ -1,6 +1,6 @@
 -- "Weighted draw".
-use Prim.Native.Nat.{ℕ, suc, _-_, _≤_, _<_}
-use mathlib.Core.Bool.{cond}
+use Prim.Native.Nat.{ℕ, suc, _+_, _-_, _≤_, _<_}
+use mathlib.Core.Bool.{Bool, cond}
 use mathlib.Core.List.{List, [], _∷_}
 use lib.Dec.{ltb}
 use lib.ListN.{length, getD, take}
@@ -33,3 +33,8 @@ weighted weights ws = next (below (total weights) ws) (λ v left. accepted (plac
 -- the numbers of a list never fall
 abbrev pub Rising : List ℕ → Type 0
 Rising xs = (i j : ℕ) → i ≤ j → j < length xs → getD xs i 0 ≤ getD xs j 0
+
+-- the sum of the weights whose places pass a test
+abbrev pub weightWhere : List ℕ → (ℕ → Bool) → ℕ
+weightWhere [] t = 0
+weightWhere (x ∷ xs) t = cond (t 0) x 0 + weightWhere xs (λ p. t (suc p))
