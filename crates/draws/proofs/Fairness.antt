@@ -1,4 +1,4 @@
--- The draws are fair: how many words, or drawn values, give each answer.
+-- Draw below m, fraction and weighted draw are fair.
 use Prim.Native.Nat.{ℕ, zero, suc, _+_, _*_, _/_, _%_, _^_, _<_}
 use mathlib.Core.Path.{_≡_, refl, sym, ap, ap₂, _∙_}
 use mathlib.Core.Bool.{Bool, true, false, cond, not, _&&_}
@@ -13,10 +13,10 @@ use Rattle.laws.specs.Counts.{countBelow}
 use Rattle.laws.proofs.Counts.{count-same, count-const, count-add, count-none, count-mod, count-div}
 use Rattle.draws.specs.Below.{skipped}
 use Rattle.draws.specs.Weighted.{firstAbove, chosen, weightWhere}
+use Rattle.draws.specs.Fairness.{BelowFair, FractionFair, WeightedFair}
 use Rattle.draws.proofs.BelowLaws.{low-counts, high-skipped}
 
--- "Draw below m": each value below m is the answer for exactly floor(2^64 / m) words that are not skipped
-pub below-fair : (m v : ℕ) → v < m → countBelow (2 ^ 64) (λ w. not (skipped m w) && eqb (w % m) v) ≡ 2 ^ 64 / m
+pub below-fair : BelowFair
 below-fair m v h =
     ap (λ (n : ℕ). countBelow n answers) (sym (div-add-mod' (2 ^ 64) m))
     ∙ count-add (2 ^ 64 % m) (2 ^ 64 / m * m) answers
@@ -34,8 +34,7 @@ below-fair m v h =
     rest : (u : ℕ) → u < 2 ^ 64 % m → answers (2 ^ 64 / m * m + u) ≡ false
     rest u l = rw (high-skipped m (2 ^ 64 / m * m + u) (omega (arith, div-add-mod' (2 ^ 64) m)) (omega (arith, div-add-mod' (2 ^ 64) m)))
 
--- "Fraction": each multiple of 2^-53 below 1 is the answer for exactly 2^11 words
-pub fraction-fair : (n : ℕ) → n < 2 ^ 53 → countBelow (2 ^ 64) (λ w. eqb (w / 2 ^ 11) n) ≡ 2 ^ 11
+pub fraction-fair : FractionFair
 fraction-fair n h = count-div (2 ^ 11) (2 ^ 53) n (omega arith) h
 
 -- a sum d more before the list moves every running sum by d
@@ -57,7 +56,7 @@ later x xs v =
     let e : 0 + x ≡ x + 0 = omega arith in
     rw (le-ltb (x + v) (0 + x) (omega arith), e) (ap suc (shift x 0 xs v))
 
--- "Weighted draw": of the values below the sum, exactly as many choose a place that passes a test as the weights of those places count
+-- of the values below the sum, exactly as many choose a place that passes a test as the weights of those places count
 pub counting : (weights : List ℕ) (t : ℕ → Bool) → countBelow (total weights) (λ v. t (chosen weights v)) ≡ weightWhere weights t
 counting [] t = count-none 0 _ (λ v l. absurd (omega arith))
 counting (x ∷ xs) t =
@@ -78,6 +77,5 @@ where-place [] p = refl
 where-place (x ∷ xs) zero = simp eqb·suc-zero (omega (arith, where-none xs))
 where-place (x ∷ xs) (suc p) = simp (eqb·zero-suc, eqb·suc-suc) (omega (arith, where-place xs p))
 
--- so exactly as many choose a place as its weight counts, and none a place of weight zero
-pub weighted-fair : (weights : List ℕ) (p : ℕ) → countBelow (total weights) (λ v. eqb (chosen weights v) p) ≡ getD weights p 0
+pub weighted-fair : WeightedFair
 weighted-fair weights p = counting weights (λ q. eqb q p) ∙ where-place weights p

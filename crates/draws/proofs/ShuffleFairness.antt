@@ -1,4 +1,4 @@
--- The list shuffle is fair: every order comes from exactly one list of draws.
+-- The list shuffle is fair.
 use Prim.Native.Nat.{ℕ, zero, suc, _+_, _-_, _≤_, _<_}
 use mathlib.Core.Path.{_≡_, refl, sym, ap, ap₂, _∙_}
 use mathlib.Core.List.{List, [], _∷_}
@@ -11,6 +11,7 @@ use Rattle.words.specs.Outcome.{accepted}
 use Rattle.words.proofs.Outcomes.{Went, went}
 use Rattle.draws.specs.Below.{below}
 use Rattle.draws.specs.Shuffle.{shuffleFrom, shuffle, swaps, Draws, none, more}
+use Rattle.draws.specs.Fairness.{ShuffleFair}
 use Rattle.draws.proofs.BelowLaws.{drawn-lt}
 
 -- what an accepted shuffle went through
@@ -88,9 +89,7 @@ same-draws (j ∷ js) (k ∷ ks) i xs ys l h (more hj dj) (more hk dk) a e =
     let r = same-draws js ks (i + 1) (swap 0 xs i j) (swap 0 ys i k) (omega arith) (rw (length-swap 0 xs i j) (omega arith)) dj dk (agree-swap i j k xs ys hi hj hk a) e in
     (ap₂ _∷_ (same-draw i j k xs ys hi hj hk a (r .1)) (r .0), same-start i j k xs ys hi hj hk a (r .1))
 
--- and two different lists of draws give two different orders: as there are n! of each, every order comes from exactly one
-pub shuffle-fair : (xs js ks : List ℕ) → Distinct 0 xs → length js ≡ length xs - 1 → length ks ≡ length xs - 1 → Draws 1 js → Draws 1 ks →
-    swaps 1 js xs ≡ swaps 1 ks xs → js ≡ ks
+pub shuffle-fair : ShuffleFair
 shuffle-fair [] js ks d lj lk dj dk e = empty js ks lj lk
   where
     empty : (js ks : List ℕ) → length js ≡ 0 → length ks ≡ 0 → js ≡ ks

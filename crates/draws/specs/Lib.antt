@@ -3,3 +3,4 @@ pub mod Fraction
 pub mod Weighted
 pub mod Shuffle
 pub mod Answers
+pub mod Fairness
