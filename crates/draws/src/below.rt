@@ -4,6 +4,7 @@ use words::Words;
 ghost use Prim.Native.Nat.{_<_};
 ghost use mathlib.Core.Path.{_≡_};
 ghost use mathlib.Core.Bool.{not};
+ghost use Rattle.words.specs.Outcome.{leftAfter};
 ghost use Rattle.words.specs.Stream.{stream};
 ghost use Rattle.draws.specs.Below.{skipped, below};
 ghost use Rattle.draws.specs.Answers.{belowSays};
@@ -32,6 +33,7 @@ fn counts(m: u64, word: u64) -> bool
 pub fn draw_below(list: &[u64], words: &mut Words, m: u64) -> Below
     requires { ⌜ 0 < m ⌝ }
     ensures { λ r. ⌜ belowSays r (stream (now (list .entry)) (now (words .exit))) ≡ below m (stream (now (list .entry)) (now (words .entry))) ⌝ }
+    ensures { λ r. ⌜ stream (now (list .entry)) (now (words .exit)) ≡ leftAfter (below m (stream (now (list .entry)) (now (words .entry)))) ⌝ }
 {
     loop {
         match words::next_word(list, words) {

@@ -2,6 +2,7 @@
 use words::Word;
 use words::Words;
 ghost use mathlib.Core.Path.{_≡_};
+ghost use Rattle.words.specs.Outcome.{leftAfter};
 ghost use Rattle.words.specs.Stream.{stream};
 ghost use Rattle.draws.specs.Fraction.{Exact, fraction};
 ghost use Rattle.draws.specs.Answers.{fractionSays, fractionPromises};
@@ -22,6 +23,7 @@ fn fraction_of(word: u64) -> f64
 // A fraction at least 0 and below 1, by one word.
 pub fn draw_fraction(list: &[u64], words: &mut Words) -> Fraction
     ensures { λ r. ⌜ fractionSays r (stream (now (list .entry)) (now (words .exit))) ≡ fraction (stream (now (list .entry)) (now (words .entry))) ⌝ }
+    ensures { λ r. ⌜ stream (now (list .entry)) (now (words .exit)) ≡ leftAfter (fraction (stream (now (list .entry)) (now (words .entry)))) ⌝ }
     ensures { λ r. ⌜ fractionPromises r ⌝ }
 {
     match words::next_word(list, words) {

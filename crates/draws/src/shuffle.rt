@@ -3,6 +3,8 @@ use crate::below;
 use crate::below::Below;
 use words::Words;
 ghost use mathlib.Core.Path.{_≡_};
+ghost use Rattle.laws.specs.Orders.{Permutation};
+ghost use Rattle.words.specs.Outcome.{leftAfter};
 ghost use Rattle.words.specs.Stream.{stream};
 ghost use Rattle.draws.specs.Shuffle.{shuffle};
 ghost use Rattle.draws.specs.Answers.{shuffledSays};
@@ -13,9 +15,11 @@ pub enum Shuffled {
     NoWord,
 }
 
-// Shuffles a list in place. Where the words run out it is left partly shuffled: callers shuffle a list of their own.
+// Shuffles a list in place. Where the words run out the items are left in some other order, and callers shuffle a list of their own.
 pub fn shuffle_list(list: &[u64], words: &mut Words, items: &mut [u64]) -> Shuffled
     ensures { λ r. ⌜ shuffledSays r (now (items .exit)) (stream (now (list .entry)) (now (words .exit))) ≡ shuffle (now (items .entry)) (stream (now (list .entry)) (now (words .entry))) ⌝ }
+    ensures { λ r. ⌜ stream (now (list .entry)) (now (words .exit)) ≡ leftAfter (shuffle (now (items .entry)) (stream (now (list .entry)) (now (words .entry)))) ⌝ }
+    ensures { λ r. ⌜ Permutation (now (items .entry)) (now (items .exit)) ⌝ }
 {
     let mut i = 1;
     while i < items.len() {

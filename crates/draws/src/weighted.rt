@@ -7,6 +7,7 @@ ghost use mathlib.Core.Path.{_≡_};
 ghost use mathlib.Core.List.{_++_};
 ghost use lib.ListN.{length, drop};
 ghost use Rattle.laws.specs.Sums.{total, runningSums};
+ghost use Rattle.words.specs.Outcome.{leftAfter};
 ghost use Rattle.words.specs.Stream.{stream};
 ghost use Rattle.draws.specs.Weighted.{Rising, firstAbove, placeOf, weighted};
 ghost use Rattle.draws.specs.Answers.{weightedSays};
@@ -74,6 +75,7 @@ pub fn draw_weighted(list: &[u64], words: &mut Words, weights: &[u64], sums: &[u
     requires { ⌜ now sums ≡ runningSums (now weights) ⌝ }
     requires { ⌜ 0 < total (now weights) ⌝ }
     ensures { λ r. ⌜ weightedSays r (stream (now (list .entry)) (now (words .exit))) ≡ weighted (now (weights .entry)) (stream (now (list .entry)) (now (words .entry))) ⌝ }
+    ensures { λ r. ⌜ stream (now (list .entry)) (now (words .exit)) ≡ leftAfter (weighted (now (weights .entry)) (stream (now (list .entry)) (now (words .entry)))) ⌝ }
 {
     let sum = sums[sums.len() - 1];
     match below::draw_below(list, words, sum) {

@@ -6,7 +6,7 @@ use native.Mathlib.Omega.{arith}
 use Rattle.words.specs.declared.Word.{Word}
 use Rattle.words.specs.declared.Word.the-variants.{Got, NoWord}
 use Rattle.words.specs.Refusals.{noWordLeft}
-use Rattle.words.specs.Outcome.{Outcome, refused, accepted, next, read}
+use Rattle.words.specs.Outcome.{Outcome, refused, accepted, next, read, leftAfter}
 use Rattle.words.specs.Answers.{wordSays}
 
 -- what an accepted chain of two went through
@@ -19,6 +19,14 @@ pub record Went {A B : Type 0} (o : Outcome A) (f : A → List ℕ → Outcome B
 pub went : {A B : Type 0} (o : Outcome A) (f : A → List ℕ → Outcome B) {b : B} {left : List ℕ} → next o f ≡ accepted b left → Went o f b left
 went (refused n) f e = absurd (let z : _≡_ {A = ℕ} 0 1 = cc in omega arith)
 went (accepted a ws) f e = record { value = a; words = ws; first = refl; then = e }
+
+-- where two outcomes are equal, so are the words that they leave
+pub and-left : {A : Type 0} {o p : Outcome A} → o ≡ p → (o ≡ p) × (leftAfter o ≡ leftAfter p)
+and-left e = (e, ap leftAfter e)
+
+-- and a refusal leaves none
+pub none-left : {A : Type 0} {o : Outcome A} {n : ℕ} {left : List ℕ} → o ≡ refused n → left ≡ leftAfter o → left ≡ []
+none-left e l = l ∙ ap leftAfter e
 
 read-some : (w : ℕ) (left s : List ℕ) → accepted w left ≡ read s → s ≡ w ∷ left
 read-some w left [] e = absurd (let z : _≡_ {A = ℕ} 0 1 = cc in omega arith)

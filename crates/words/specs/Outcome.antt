@@ -13,6 +13,11 @@ abbrev pub next : {A B : Type 0} → Outcome A → (A → List ℕ → Outcome B
 next (refused n) f = refused n
 next (accepted a ws) f = f a ws
 
+-- the words that are left after a call whose one refusal is that no word is left
+abbrev pub leftAfter : {A : Type 0} → Outcome A → List ℕ
+leftAfter (refused n) = []
+leftAfter (accepted a ws) = ws
+
 -- one word is read
 abbrev pub read : List ℕ → Outcome ℕ
 read [] = refused noWordLeft

@@ -4,7 +4,7 @@
 // that alone, and nothing outside this crate looks into a `Words`.
 ghost use mathlib.Core.Path.{_≡_};
 ghost use lib.ListN.{length, drop};
-ghost use Rattle.words.specs.Outcome.{read};
+ghost use Rattle.words.specs.Outcome.{read, leftAfter};
 ghost use Rattle.words.specs.Stream.{stream};
 ghost use Rattle.words.specs.Answers.{wordSays};
 
@@ -34,6 +34,7 @@ fn held(words: &Words) -> Words
 // Reads the next word.
 pub fn next_word(list: &[u64], words: &mut Words) -> Word
     ensures { λ r. ⌜ wordSays r (stream (now (list .entry)) (now (words .exit))) ≡ read (stream (now (list .entry)) (now (words .entry))) ⌝ }
+    ensures { λ r. ⌜ stream (now (list .entry)) (now (words .exit)) ≡ leftAfter (read (stream (now (list .entry)) (now (words .entry)))) ⌝ }
 {
     held(words);
     let at = words[0] as usize;

@@ -1,5 +1,5 @@
--- `words::next_word` meets its contract.
-use mathlib.Core.Path.{_≡_, sym, ap, _∙_}
+-- `words::next_word` meets its contract: the word at the cursor is the first that is left, and the cursor then stands after it.
+use mathlib.Core.Path.{_≡_, refl, sym, ap, _∙_}
 use native.Mathlib.Omega.{arith}
 use native.Mathlib.Numerals.{add-one}
 use Prim.Native.Nat.{_+_}
@@ -39,10 +39,11 @@ returns c =
     let a = h .before .before .before .args in
     let at = getD (now (a .words)) 0 0 in
     rw (getD-set-same (now (a .words)) 0 (at + 1) 0 (omega (arith, words-length h)), drop-cons (now (a .list)) at 0 (c .before .if1 .taken), add-one)
+    (refl, refl)
 
 returns-2 : tie.Need-returns-2
 unfolding stream
-returns-2 c = rw (drop-of-length-le (now (c .before .before .before .before .before .args .list)) (c .if1 .left))
+returns-2 c = rw (drop-of-length-le (now (c .before .before .before .before .before .args .list)) (c .if1 .left)) (refl, refl)
 
 pub next-word-spec : {M : Type 1} → statement M
 next-word-spec =

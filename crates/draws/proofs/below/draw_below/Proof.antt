@@ -1,12 +1,14 @@
 -- `draws::below::draw_below` meets its contract. The invariant: a draw from the words that are left is the draw that was asked for.
 use mathlib.Core.Path.{_≡_, sym, ap, _∙_}
-use mathlib.Core.List.{_∷_, []}
+use Prim.Native.Nat.{ℕ}
+use mathlib.Core.List.{List, _∷_, []}
 use native.Mathlib.Omega.{arith}
 use borrow.Author.Tests.{not-true, not-false}
 use denote.Ref.{now}
 use lib.ListN.{length}
+use Rattle.words.specs.Outcome.{read, leftAfter}
 use Rattle.words.specs.Stream.{stream}
-use Rattle.words.proofs.Outcomes.{got, no-word}
+use Rattle.words.proofs.Outcomes.{got, no-word, and-left}
 use Rattle.draws.specs.Below.{below}
 use Rattle.draws.proofs.BelowLaws.{takes, skips}
 use borrow.Author.Needs.{needs}
@@ -25,13 +27,13 @@ some : (c : tie.After-word Inv-loop μ-loop) →
     let l = c .before .before .before .before in
     let list = now (l .before .before .args .list) in
     stream list (l .loop .words) ≡ c .word .given .0 .0 ∷ stream list (n .last .1 .0)
-some c = let n = c .before .before .next-word in got (n .result) _ _ _ (n .ensures) (c .word .given .1)
+some c = let n = c .before .before .next-word in got (n .result) _ _ _ (n .ensures .0) (c .word .given .1)
 
 -- no word was left
 none : (c : tie.After-enum-told Inv-loop μ-loop) →
     let l = c .before .before .before .before in
     stream (now (l .before .before .args .list)) (l .loop .words) ≡ []
-none c = let n = c .before .before .next-word in no-word (n .result) _ _ (n .ensures) (c .enum-told .given .1)
+none c = let n = c .before .before .next-word in no-word (n .result) _ _ (n .ensures .0) (c .enum-told .given .1)
 
 loop-holds : tie.Need-loop-holds Inv-loop μ-loop
 loop-holds c = search needs
@@ -53,7 +55,7 @@ returns c =
     let k = c .before in
     let w = k .before .before in
     let l = w .before .before .before .before in
-    sym (takes (l .before .before .args .m) (w .word .given .0 .0) _ _ (some w) (not-true _ (sym (k .counts .ensures) ∙ c .if1 .taken))) ∙ l .loop .inv
+    and-left (sym (takes (l .before .before .args .m) (w .word .given .0 .0) _ _ (some w) (not-true _ (sym (k .counts .ensures) ∙ c .if1 .taken))) ∙ l .loop .inv)
 
 loop-less : tie.Need-loop-less Inv-loop μ-loop
 loop-less c = omega (arith, ap length (some (c .before .before .before)))
@@ -70,8 +72,10 @@ enum-told c = search needs
 
 returns-2 : tie.Need-returns-2 Inv-loop μ-loop
 returns-2 c =
+    let n = c .before .before .next-word in
     let l = c .before .before .before .before in
-    sym (ap (below (l .before .before .args .m)) (none c)) ∙ l .loop .inv
+    let e = and-left (sym (ap (below (l .before .before .args .m)) (none c)) ∙ l .loop .inv) in
+    (e .0, n .ensures .1 ∙ ap (λ (s : List ℕ). leftAfter (read s)) (none c) ∙ e .1)
 
 pub draw-below-spec : {M : Type 1} → statement M
 draw-below-spec =

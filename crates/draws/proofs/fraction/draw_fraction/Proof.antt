@@ -1,4 +1,7 @@
 -- `draws::fraction::draw_fraction` meets its contract.
+use mathlib.Core.Path.{refl, sym, _∙_}
+use Rattle.words.specs.Refusals.{noWordLeft}
+use Rattle.words.proofs.Outcomes.{none-left}
 use borrow.Author.Needs.{needs}
 use Rattle.draws.proofs.fraction.draw_fraction.Statement.{statement}
 use Rattle.draws.proofs.fraction.draw_fraction.Tie as tie
@@ -18,10 +21,13 @@ enum-told c = search needs
 returns : tie.Need-returns
 returns c =
     let w = c .before .before in
-    (rw (← w .before .before .next-word .ensures, w .word .given .1, c .fraction-of .ensures .is), record { word = w .word .given .0 .0; exact = c .fraction-of .ensures })
+    rw (← w .before .before .next-word .ensures .0, w .word .given .1, c .fraction-of .ensures .is)
+    (refl, (refl, record { word = w .word .given .0 .0; exact = rw (c .fraction-of .ensures .is) at (c .fraction-of .ensures) }))
 
 returns-2 : tie.Need-returns-2
-returns-2 c = (rw (← c .before .before .next-word .ensures, c .enum-told .given .1), tt)
+returns-2 c =
+    let n = c .before .before .next-word in
+    rw (← n .ensures .0, c .enum-told .given .1) (refl, (none-left {n = noWordLeft} (sym (n .ensures .0) ∙ rw (c .enum-told .given .1)) (n .ensures .1), tt))
 
 pub draw-fraction-spec : {M : Type 1} → statement M
 draw-fraction-spec =

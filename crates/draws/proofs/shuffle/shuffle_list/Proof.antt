@@ -1,10 +1,15 @@
--- `draws::shuffle::shuffle_list` meets its contract. The invariant: shuffling on from place i gives what the whole shuffle gives.
+-- `draws::shuffle::shuffle_list` meets its contract. The invariant: shuffling on from place i gives what the whole shuffle gives, and
+-- the items are a permutation of those given.
 use Prim.Native.Nat.{_≤_, _<_, _-_, _+_}
 use mathlib.Core.Path.{_≡_, sym, ap, _∙_}
 use native.Mathlib.Omega.{arith}
 use denote.Ref.{now}
 use lib.ListN.{length, length-set}
+use Rattle.laws.specs.Orders.{Permutation}
+use Rattle.laws.proofs.Orders.{permutation-self, permutation-then, permutation-swap}
+use Rattle.words.specs.Refusals.{noWordLeft}
 use Rattle.words.specs.Stream.{stream}
+use Rattle.words.proofs.Outcomes.{and-left, none-left}
 use Rattle.words.specs.Outcome.{accepted}
 use Rattle.draws.specs.declared.below.Below.{Below}
 use Rattle.draws.specs.Below.{below}
@@ -18,7 +23,7 @@ use Rattle.draws.proofs.shuffle.shuffle_list.Tie as tie
 
 abbrev Inv-loop : tie.InvT-loop
 Inv-loop list words₀ items₀ i₀ words items i =
-    (1 ≤ i) × (length items ≡ length items₀) × (shuffleFrom (length items₀ - i) i items (stream list words) ≡ shuffle items₀ (stream list words₀))
+    (1 ≤ i) × Permutation items₀ items × (shuffleFrom (length items₀ - i) i items (stream list words) ≡ shuffle items₀ (stream list words₀))
 
 abbrev μ-loop : tie.MeasureT-loop
 μ-loop list words₀ items₀ i₀ words items i = length items - i
@@ -32,7 +37,7 @@ some : (c : tie.After-v Inv-loop μ-loop) →
 some c =
     let d = c .before .before .draw-below in
     let list = now (c .before .before .before .before .before .before .before .before .args .list) in
-    sym (d .ensures) ∙ ap (λ (r : Below). belowSays r (stream list (d .last .1 .0))) (c .v .given .1)
+    sym (d .ensures .0) ∙ ap (λ (r : Below). belowSays r (stream list (d .last .1 .0))) (c .v .given .1)
 
 -- so it is a place of the list
 place-lt : (c : tie.After-v Inv-loop μ-loop) → let l = c .before .before .before .before .before in c .v .given .0 .0 < length (l .loop .items)
@@ -42,7 +47,7 @@ place-lt c =
     omega (arith, drawn-lt (l .loop .i + 1) (omega arith) (stream list (l .loop .words)) (some c), c .before .before .before .before .loop-test .taken)
 
 loop-holds : tie.Need-loop-holds Inv-loop μ-loop
-loop-holds c = search needs
+loop-holds c = (search needs, permutation-self _, search needs)
 
 add-draw-below : tie.Need-add-draw-below Inv-loop μ-loop
 add-draw-below c = search needs
@@ -89,8 +94,8 @@ loop-again c =
     let l = v .before .before .before .before .before in
     let s = l .before .before .before in (
       omega arith,
-      simp length-set (l .loop .inv .1),
-      sym (step (length (now (s .args .items))) (l .loop .i) (l .loop .items) _ (omega arith) _ _ (some v)) ∙ l .loop .inv .2,
+      permutation-then (l .loop .inv .1) (permutation-swap 0 (l .loop .items) (l .loop .i) (v .v .given .0 .0) (omega arith) (place-lt v)),
+      sym (step (length (now (s .args .items))) (l .loop .i) (l .loop .items) _ (omega (arith, l .loop .inv .1 .long)) _ _ (some v)) ∙ l .loop .inv .2,
     )
 
 enum-told : tie.Need-enum-told Inv-loop μ-loop
@@ -104,9 +109,9 @@ returns c =
     let d = c .before .before .draw-below in
     let l = c .before .before .before .before .before in
     let a = l .before .before .before .args in
-    sym (stop (length (now (a .items))) (l .loop .i) (l .loop .items) _ (omega arith) _
-    (sym (d .ensures) ∙ ap (λ (r : Below). belowSays r (stream (now (a .list)) (d .last .1 .0))) (c .enum-told .given .1)))
-    ∙ l .loop .inv .2
+    let e = sym (d .ensures .0) ∙ ap (λ (r : Below). belowSays r (stream (now (a .list)) (d .last .1 .0))) (c .enum-told .given .1) in
+    let r = and-left (sym (stop (length (now (a .items))) (l .loop .i) (l .loop .items) _ (omega (arith, l .loop .inv .1 .long)) noWordLeft e) ∙ l .loop .inv .2) in
+    (r .0, (none-left {n = noWordLeft} e (d .ensures .1) ∙ r .1, l .loop .inv .1))
 
 same-length-2 : tie.Need-same-length-2 Inv-loop μ-loop
 same-length-2 c = search needs
@@ -114,7 +119,8 @@ same-length-2 c = search needs
 returns-2 : tie.Need-returns-2 Inv-loop μ-loop
 returns-2 c =
     let l = c .before in
-    sym (done (length (now (l .before .before .before .args .items))) (l .loop .i) (l .loop .items) _ (omega arith)) ∙ l .loop .inv .2
+    let r = and-left (sym (done (length (now (l .before .before .before .args .items))) (l .loop .i) (l .loop .items) _ (omega (arith, l .loop .inv .1 .long))) ∙ l .loop .inv .2) in
+    (r .0, (r .1, l .loop .inv .1))
 
 pub shuffle-list-spec : {M : Type 1} → statement M
 shuffle-list-spec =

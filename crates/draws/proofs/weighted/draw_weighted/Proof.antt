@@ -1,6 +1,6 @@
 -- `draws::weighted::draw_weighted` meets its contract: the last running sum is the sum that the value is drawn below.
 use Prim.Native.Nat.{ℕ, _-_, _<_}
-use mathlib.Core.Path.{_≡_, sym, ap, _∙_}
+use mathlib.Core.Path.{_≡_, refl, sym, ap, _∙_}
 use mathlib.Core.List.{List}
 use native.Mathlib.Omega.{arith}
 use denote.Ref.{now}
@@ -8,6 +8,8 @@ use lib.ListN.{length, getD}
 use Rattle.laws.specs.Sums.{total, runningSums}
 use Rattle.laws.proofs.Sums.{length-running}
 use Rattle.words.specs.Stream.{stream}
+use Rattle.words.specs.Refusals.{noWordLeft}
+use Rattle.words.proofs.Outcomes.{none-left}
 use Rattle.draws.specs.declared.below.Below.{Below}
 use Rattle.draws.specs.Below.{below}
 use Rattle.draws.specs.Answers.{belowSays}
@@ -33,7 +35,7 @@ drawn c =
     let s = c .before .before .before .before .before .before in
     let a = s .args in
     ap (λ (m : ℕ). below m (stream (now (a .list)) (now (a .words)))) (sym (last (now (a .weights)) (now (a .sums)) (s .pre .0) (s .pre .1)))
-    ∙ sym (c .draw-below .ensures)
+    ∙ sym (c .draw-below .ensures .0)
 
 sub-sum : tie.Need-sub-sum
 sub-sum c = let s = c .before .before .before in long (now (s .args .weights)) (now (s .args .sums)) (s .pre .0) (s .pre .1)
@@ -64,10 +66,12 @@ enum-told : tie.Need-enum-told
 enum-told c = search needs
 
 returns : tie.Need-returns
-returns c = let v = c .before .before in rw (drawn (v .before .before), v .v .given .1, c .place-of .ensures)
+returns c = let v = c .before .before in rw (drawn (v .before .before), v .v .given .1, c .place-of .ensures) (refl, refl)
 
 returns-2 : tie.Need-returns-2
-returns-2 c = rw (drawn (c .before .before), c .enum-told .given .1)
+returns-2 c =
+    let d = c .before .before .draw-below in
+    rw (drawn (c .before .before), c .enum-told .given .1) (refl, none-left {n = noWordLeft} (sym (d .ensures .0) ∙ rw (c .enum-told .given .1)) (d .ensures .1))
 
 pub draw-weighted-spec : {M : Type 1} → statement M
 draw-weighted-spec =
