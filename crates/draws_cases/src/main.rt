@@ -31,6 +31,12 @@ struct Expected {
     next: usize,
 }
 
+// How many words a case has, and what it expects.
+struct Given {
+    count: usize,
+    expected: Expected,
+}
+
 // What a case of a list shuffle expects beside the list's numbers: its length and the words read too.
 struct ExpectedList {
     expected: Expected,
@@ -63,6 +69,23 @@ fn read_expected(text: &[u8], at: usize, numbers: &mut [u64]) -> Expected
         formed: read.found,
         refusal: 0,
         next: read.next,
+    }
+}
+
+// Reads a case's words to the front of list, and what it expects.
+fn read_words(text: &[u8], at: usize, list: &mut [u64], numbers: &mut [u64]) -> Given
+    ensures { λ r. ⌜ at ≤ r .expected .next ⌝ }
+    ensures { λ r. ⌜ Counts (r .count) (now (list .exit)) ⌝ }
+{
+    let words = cases::read_list(text, at, list);
+    let e = read_expected(text, words.next, numbers);
+    Given {
+        count: words.count,
+        expected: Expected {
+            formed: words.found && e.formed,
+            refusal: e.refusal,
+            next: e.next,
+        },
     }
 }
 
@@ -126,14 +149,10 @@ fn below_case(text: &[u8], at: usize) -> Verdict
 {
     let m = cases::next_number(text, at);
     let mut list = [0u64; 8192];
-    let given = cases::read_list(text, m.next, &mut list);
-    let n = given.count;
     let mut wanted = [0u64; 2];
-    let e = read_expected(text, given.next, &mut wanted);
-    if !m.found || !given.found {
-        return malformed(e.next);
-    }
-    judge_below(&list[..n], m.value, e, &wanted)
+    let given = read_words(text, m.next, &mut list, &mut wanted);
+    let n = given.count;
+    judge_below(&list[..n], m.value, given.expected, &wanted)
 }
 
 // Whether x is numerator / 2^53.
@@ -160,14 +179,10 @@ fn fraction_case(text: &[u8], at: usize) -> Verdict
     ensures { λ r. ⌜ at ≤ r .next ⌝ }
 {
     let mut list = [0u64; 8192];
-    let given = cases::read_list(text, at, &mut list);
-    let n = given.count;
     let mut wanted = [0u64; 2];
-    let e = read_expected(text, given.next, &mut wanted);
-    if !given.found {
-        return malformed(e.next);
-    }
-    judge_fraction(&list[..n], e, &wanted)
+    let given = read_words(text, at, &mut list, &mut wanted);
+    let n = given.count;
+    judge_fraction(&list[..n], given.expected, &wanted)
 }
 
 // The sum of weights, or 0 where it passes 2^64 - 1.
@@ -214,18 +229,20 @@ fn weighted_case(text: &[u8], at: usize) -> Verdict
     ensures { λ r. ⌜ at ≤ r .next ⌝ }
 {
     let mut weights = [0u64; 4096];
-    let given = cases::read_list(text, at, &mut weights);
-    let k = given.count;
+    let weighed = cases::read_list(text, at, &mut weights);
+    let k = weighed.count;
     let mut list = [0u64; 8192];
-    let word_list = cases::read_list(text, given.next, &mut list);
-    let n = word_list.count;
     let mut wanted = [0u64; 3];
-    let e = read_expected(text, word_list.next, &mut wanted);
-    if !given.found || !word_list.found {
-        return malformed(e.next);
-    }
+    let given = read_words(text, weighed.next, &mut list, &mut wanted);
+    let n = given.count;
     let mut sums = [0u64; 4096];
-    judge_weighted(&list[..n], &weights[..k], &mut sums, e, &wanted)
+    judge_weighted(
+        &list[..n],
+        &weights[..k],
+        &mut sums,
+        given.expected,
+        &wanted,
+    )
 }
 
 // Reads what a case of a list shuffle expects, and the expected list to the front of wanted.
