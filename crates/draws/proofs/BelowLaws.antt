@@ -8,6 +8,7 @@ use native.Mathlib.Omega.{arith}
 use lib.Dec.{leb, eqb}
 use borrow.Author.Tests.{lt-leb, le-leb, ne-eqb, leb-true, leb-false}
 use Rattle.words.specs.Outcome.{accepted}
+use Rattle.words.proofs.Outcomes.{NoLonger, refused-no-longer, accepted-no-longer}
 use Rattle.draws.specs.Below.{skipped, below}
 
 and-false : (b : Bool) → (b && false) ≡ false
@@ -49,3 +50,12 @@ drawn-lt m pos (w ∷ ws) {v} {left} e = go (skipped m w) (drawn-lt m pos ws) e
     go : (b : Bool) → (below m ws ≡ accepted v left → v < m) → cond b (below m ws) (accepted (w % m) ws) ≡ accepted v left → v < m
     go true ih e = ih e
     go false ih e = let h : w % m ≡ v = cc in omega (arith, mod-lt w pos)
+
+-- no more words are left than there were
+pub below-no-longer : (m : ℕ) (ws : List ℕ) → NoLonger ws (below m ws)
+below-no-longer m [] = refused-no-longer
+below-no-longer m (w ∷ ws) = go (skipped m w) (below-no-longer m ws)
+  where
+    go : (b : Bool) → NoLonger ws (below m ws) → NoLonger (w ∷ ws) (cond b (below m ws) (accepted (w % m) ws))
+    go true ih = record { at-most = λ v left e. omega (arith, ih .at-most v left e) }
+    go false ih = accepted-no-longer (w % m) ws (omega arith)

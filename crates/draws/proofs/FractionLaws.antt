@@ -13,7 +13,10 @@ use lib.Ieee.Exact.{HasValue, round-exact}
 use lib.Ieee.Back.{round-whole}
 use lib.Ieee.Order.{le-of-values}
 use lib.Ieee.Scale.{round-same}
-use Rattle.draws.specs.Fraction.{zeroF, oneF, fractionOf, Exact}
+use mathlib.Core.List.{List}
+use Rattle.laws.specs.Floats.{zeroF, oneF}
+use Rattle.words.proofs.Outcomes.{NoLonger, read-no-longer, accepted-no-longer, next-no-longer}
+use Rattle.draws.specs.Fraction.{fractionOf, fraction, Exact}
 
 upper-bits : (w : ℕ) → w < 2 ^ 64 → w / 2 ^ 11 < 2 ^ 53
 upper-bits w h = omega arith
@@ -70,3 +73,7 @@ module _ (w : ℕ) (h : w < 2 ^ 64) where
     low = le-of-values zeroF (fractionOf w) 0 1 (w / 2 ^ 11) (2 ^ 53) (pow-pos 0) (pow-pos 53) (refl, refl) value (omega arith);
     high = below-one (fractionOf w) (w / 2 ^ 11) (2 ^ 53) value (upper-bits w h);
   }
+
+-- no more words are left than there were
+pub fraction-no-longer : (ws : List ℕ) → NoLonger ws (fraction ws)
+fraction-no-longer ws = next-no-longer (read-no-longer ws) (λ w left. accepted-no-longer (fractionOf w) left (omega arith))

@@ -1,21 +1,21 @@
 -- Laws of the place that a value chooses among weights, and of its remainder.
 use Prim.Native.Nat.{ℕ, zero, suc, _+_, _-_, _≤_, _<_}
-use mathlib.Core.Path.{_≡_, refl, ap}
+use mathlib.Core.Path.{_≡_, refl, sym, ap, _∙_}
 use mathlib.Core.Bool.{Bool, true, false, cond}
 use mathlib.Core.List.{List, [], _∷_, _++_}
 use native.Mathlib.Omega.{arith}
 use lib.Dec.{ltb}
-use lib.ListN.{length, getD, take}
+use lib.ListN.{length, getD, take, length-append}
 use lib.Seq.{take-length, take-at}
 use borrow.Author.Tests.{ltb-true, ltb-false, lt-ltb, le-ltb}
 use Rattle.laws.specs.Sums.{total, runningFrom, runningSums}
 use Rattle.laws.proofs.Sums.{total-take-suc, length-running, running-at, running-rises}
 use Rattle.words.specs.Outcome.{accepted}
-use Rattle.words.proofs.Outcomes.{Went, went}
+use Rattle.words.proofs.Outcomes.{Went, went, NoLonger, accepted-no-longer, next-no-longer}
 use Rattle.draws.specs.declared.weighted.Place.{Place}
 use Rattle.draws.specs.Below.{below}
 use Rattle.draws.specs.Weighted.{firstAbove, chosen, remainder, placeOf, weighted, Rising}
-use Rattle.draws.proofs.BelowLaws.{drawn-lt}
+use Rattle.draws.proofs.BelowLaws.{drawn-lt, below-no-longer}
 
 -- r is the smallest place whose number exceeds v: no number before it does, and the number there does, if there is one
 pub first-above-is : (xs : List ℕ) (v r : ℕ) → r ≤ length xs → ((k : ℕ) → k < r → getD xs k 0 ≤ v) → (r < length xs → v < getD xs r 0) → r ≡ firstAbove xs v
@@ -71,6 +71,20 @@ module _ (weights : List ℕ) (v : ℕ) (h : v < total weights) where
 pub sums-front : (weights held : List ℕ) → take (length weights) (runningSums weights ++ held) ≡ runningSums weights
 sums-front weights held = take-at (runningSums weights) held (length weights) (length-running 0 weights)
 
+pub record Front (weights sums : List ℕ) : Type 0 where
+  pub room : length weights ≤ length sums
+  pub is : take (length weights) sums ≡ runningSums weights
+  pub long : length weights ≡ length (take (length weights) sums)
+
+pub front : (weights held sums : List ℕ) → sums ≡ runningSums weights ++ held → Front weights sums
+front weights held sums e =
+    let f = ap (take (length weights)) e ∙ sums-front weights held in
+    record {
+      room = omega (arith, ap length e, length-append (runningSums weights) held, length-running 0 weights);
+      is = f;
+      long = sym (ap length f ∙ length-running 0 weights);
+    }
+
 -- what a search of the running sums finds
 pub record Found (weights sums : List ℕ) (v at : ℕ) : Type 0 where
   pub among-weights : at < length weights
@@ -117,3 +131,8 @@ placed weights ws {p} {left} h e =
     let l : g .value < total weights = drawn-lt (total weights) h ws (g .first) in
     let q : placeOf weights (g .value) ≡ p = cc in
     rw (← q) (record { within = chosen-is weights (g .value) l .within; below-weight = remainder-lt weights (g .value) l })
+
+-- no more words are left than there were
+pub weighted-no-longer : (weights ws : List ℕ) → NoLonger ws (weighted weights ws)
+weighted-no-longer weights ws =
+    next-no-longer (below-no-longer (total weights) ws) (λ v left. accepted-no-longer (placeOf weights v) left (omega arith))

@@ -2,7 +2,7 @@
 use Prim.Native.Nat.{ℕ}
 use mathlib.Core.List.{List}
 use lib.Ieee.{Float}
-use Rattle.words.specs.Refusals.{noWordLeft}
+use Rattle.refusals.specs.Refusals.{noWordLeft}
 use Rattle.words.specs.Outcome.{Outcome, refused, accepted}
 use Rattle.draws.specs.declared.below.Below.{Below}
 use Rattle.draws.specs.declared.below.Below.the-variants as below

@@ -3,7 +3,7 @@ use Prim.Native.Nat.{ℕ, _-_, _%_, _^_}
 use mathlib.Core.Bool.{Bool, cond, not, _&&_}
 use mathlib.Core.List.{List, [], _∷_}
 use lib.Dec.{leb, eqb}
-use Rattle.words.specs.Refusals.{noWordLeft}
+use Rattle.refusals.specs.Refusals.{noWordLeft}
 use Rattle.words.specs.Outcome.{Outcome, refused, accepted}
 
 -- the word w is skipped: w ≥ 2^64 − (2^64 mod m), where that remainder is not 0

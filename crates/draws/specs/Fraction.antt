@@ -3,18 +3,11 @@ use Prim.Native.Nat.{ℕ, _/_, _^_}
 use mathlib.Core.Path.{_≡_}
 use mathlib.Core.Bool.{false}
 use mathlib.Core.List.{List}
-use lib.IntN.{pos}
 use lib.Dec.{T}
-use lib.Ieee.{Float, fin, binary64, round, le, lt}
+use lib.Ieee.{Float, binary64, round, le, lt}
 use lib.Ieee.Exact.{HasValue}
+use Rattle.laws.specs.Floats.{zeroF, oneF}
 use Rattle.words.specs.Outcome.{Outcome, accepted, next, read}
-
--- 0 and 1 in f64
-abbrev pub zeroF : Float
-zeroF = fin false 0 (pos 0)
-
-abbrev pub oneF : Float
-oneF = fin false 1 (pos 0)
 
 -- floor(w / 2^11) / 2^53, as the f64 that is nearest; `Exact` says that it is the number itself
 unfoldable pub fractionOf : ℕ → Float

@@ -1,11 +1,11 @@
 -- Laws of a buffer that is filled from the front, over any element.
-use Prim.Native.Nat.{ℕ, suc, _+_, _<_}
-use mathlib.Core.Path.{_≡_, sym, _∙_}
+use Prim.Native.Nat.{ℕ, suc, _+_, _≤_, _<_}
+use mathlib.Core.Path.{_≡_, refl, sym, ap, _∙_}
 use mathlib.Core.List.{List, _++_}
 use native.Mathlib.Numerals.{add-one}
 use native.Mathlib.Omega.{arith}
-use lib.ListN.{length, getD, set, take, drop}
-use lib.Seq.{append-snoc, drop-cons, take-suc, set-at, length-take-le}
+use lib.ListN.{length, getD, set, take, drop, length-set}
+use lib.Seq.{append-snoc, drop-cons, take-suc, set-at, length-take-le, take-all}
 
 -- the first i values stand before what the buffer held; one store adds the next value
 pub store-next : {A : Type 0} (d : A) (values held : List A) (i : ℕ) → i < length values → i < length held →
@@ -14,3 +14,27 @@ store-next d values held i h g =
     rw (add-one, drop-cons held i d g, take-suc values i d h)
     (set-at (take i values) (getD held i d) (drop (suc i) held) (getD values i d) i (length-take-le i values (omega arith))
     ∙ sym (append-snoc (take i values) (getD values i d) (drop (suc i) held)))
+
+-- so far i of the values are stored
+pub record Stored {A : Type 0} (values held buffer : List A) (i : ℕ) : Type 0 where
+  pub within : i ≤ length values
+  pub long : length buffer ≡ length held
+  pub holds : buffer ≡ take i values ++ drop i held
+
+pub stored-none : {A : Type 0} (values held : List A) → Stored values held held 0
+stored-none values held = record { within = omega arith; long = refl; holds = refl }
+
+pub stored-next : {A : Type 0} (d : A) {values held buffer : List A} {i : ℕ} → i < length values → length values ≤ length held →
+    Stored values held buffer i → Stored values held (set buffer i (getD values i d)) (i + 1)
+stored-next d {values} {held} {buffer} {i} l r s = record {
+  within = omega arith;
+  long = simp length-set (s .long);
+  holds = ap (λ (b : List _). set b i (getD values i d)) (s .holds) ∙ store-next d values held i l (omega arith);
+}
+
+-- and then all of them
+pub stored-all : {A : Type 0} {values held buffer : List A} {i : ℕ} → length values ≤ i → Stored values held buffer i →
+    buffer ≡ values ++ drop (length values) held
+stored-all {values = values} {held = held} {i = i} l s =
+    let e : i ≡ length values = omega (arith, s .within) in
+    s .holds ∙ ap (λ (j : ℕ). take j values ++ drop j held) e ∙ ap (λ (xs : List _). xs ++ drop (length values) held) (take-all (length values) values (omega arith))

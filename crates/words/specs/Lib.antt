@@ -1,4 +1,3 @@
-pub mod Refusals
 pub mod Outcome
 pub mod Stream
 pub mod Answers

@@ -1,7 +1,10 @@
 -- What a call that reads words gives.
-use Prim.Native.Nat.{ℕ}
-use mathlib.Core.List.{List, [], _∷_}
-use Rattle.words.specs.Refusals.{noWordLeft}
+use Prim.Native.Nat.{ℕ, _-_}
+use mathlib.Core.List.{List, [], _∷_, _++_}
+use lib.ListN.{length, drop}
+use Rattle.refusals.specs.declared.Refusal.{Refusal}
+use Rattle.refusals.specs.declared.Refusal.the-variants.{None, Number}
+use Rattle.refusals.specs.Refusals.{noWordLeft}
 
 -- a refusal's number, or a value and the words that are left
 pub data Outcome (A : Type 0) : Type 0 where
@@ -22,3 +25,17 @@ leftAfter (accepted a ws) = ws
 abbrev pub read : List ℕ → Outcome ℕ
 read [] = refused noWordLeft
 read (w ∷ ws) = accepted w ws
+
+-- a call is turned down by a refusal, and goes on where there is none
+abbrev pub unless : {A : Type 0} → Refusal → Outcome A → Outcome A
+unless None o = o
+unless (Number n) o = refused n
+
+-- how many words were read
+abbrev pub wordsRead : List ℕ → List ℕ → ℕ
+wordsRead before left = length before - length left
+
+-- what a lent buffer holds after a call: what it held where the call is refused; else the values, and past them what it held
+abbrev pub bufferAfter : {A : Type 0} → Outcome A → (A → List ℕ) → List ℕ → List ℕ
+bufferAfter (refused n) values held = held
+bufferAfter (accepted a left) values held = values a ++ drop (length (values a)) held

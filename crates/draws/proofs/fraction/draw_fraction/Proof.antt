@@ -1,6 +1,6 @@
 -- `draws::fraction::draw_fraction` meets its contract.
 use mathlib.Core.Path.{refl, sym, _∙_}
-use Rattle.words.specs.Refusals.{noWordLeft}
+use Rattle.refusals.specs.Refusals.{noWordLeft}
 use Rattle.words.proofs.Outcomes.{none-left}
 use borrow.Author.Needs.{needs}
 use Rattle.draws.proofs.fraction.draw_fraction.Statement.{statement}

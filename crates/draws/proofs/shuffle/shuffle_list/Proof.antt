@@ -7,7 +7,7 @@ use denote.Ref.{now}
 use lib.ListN.{length, length-set}
 use Rattle.laws.specs.Orders.{Permutation}
 use Rattle.laws.proofs.Orders.{permutation-self, permutation-then, permutation-swap}
-use Rattle.words.specs.Refusals.{noWordLeft}
+use Rattle.refusals.specs.Refusals.{noWordLeft}
 use Rattle.words.specs.Stream.{stream}
 use Rattle.words.proofs.Outcomes.{and-left, none-left}
 use Rattle.words.specs.Outcome.{accepted}

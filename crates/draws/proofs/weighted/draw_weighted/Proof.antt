@@ -8,7 +8,7 @@ use lib.ListN.{length, getD}
 use Rattle.laws.specs.Sums.{total, runningSums}
 use Rattle.laws.proofs.Sums.{length-running}
 use Rattle.words.specs.Stream.{stream}
-use Rattle.words.specs.Refusals.{noWordLeft}
+use Rattle.refusals.specs.Refusals.{noWordLeft}
 use Rattle.words.proofs.Outcomes.{none-left}
 use Rattle.draws.specs.declared.below.Below.{Below}
 use Rattle.draws.specs.Below.{below}

@@ -1,0 +1,95 @@
+// Reasons to turn a call down: the number of each, and the tests of their conditions.
+use types::CheckedStake;
+use types::Stake;
+ghost use Prim.Native.Nat.{_≤_};
+ghost use mathlib.Core.Path.{_≡_};
+ghost use mathlib.Core.List.{[], _∷_};
+ghost use lib.ListN.{length};
+ghost use Rattle.refusals.specs.Refusals.{lowest, listLength, size, triesAllowed, maxSamples, sumPast, totalZero, countLimit};
+
+// Whether a call is turned down, and by which number.
+pub enum Refusal {
+    None,
+    Number(u64),
+}
+
+pub const LIST_LENGTH: u64 = 1;
+
+pub const SIZE: u64 = 2;
+
+pub const TRIES_ALLOWED: u64 = 3;
+
+pub const MAX_SAMPLES: u64 = 4;
+
+pub const SHORT_BUFFER: u64 = 7;
+
+pub const SUM_PAST: u64 = 8;
+
+pub const TOTAL_ZERO: u64 = 9;
+
+pub const COUNT_LIMIT: u64 = 10;
+
+pub const NO_WORD_LEFT: u64 = 12;
+
+pub const LAST_TRY_REJECTED: u64 = 13;
+
+// 1, for a list of n stakes.
+pub fn bad_list_length(n: usize) -> bool
+    ensures { λ r. ⌜ r ≡ listLength n .applies ⌝ }
+{
+    4096 < n || n == 0
+}
+
+// 2, for a committee or a number of bins.
+pub fn bad_size(k: usize) -> bool
+    ensures { λ r. ⌜ r ≡ size k .applies ⌝ }
+{
+    1024 < k
+}
+
+// 3.
+pub fn bad_tries_allowed(tries: usize) -> bool
+    ensures { λ r. ⌜ r ≡ triesAllowed tries .applies ⌝ }
+{
+    tries == 0 || 100_000 < tries
+}
+
+// 4. A NaN is not above 0.
+pub fn bad_max_samples(max_samples: f64) -> bool
+    ensures { λ r. ⌜ r ≡ maxSamples «max_samples» .applies ⌝ }
+{
+    !(0.0 < max_samples)
+}
+
+// 8 and 9.
+pub fn bad_sum(stakes: &[u64]) -> Refusal
+    ensures { λ r. ⌜ r ≡ lowest (sumPast (now (stakes .entry)) ∷ totalZero (now (stakes .entry)) ∷ []) ⌝ }
+{
+    match Stake::sum(stakes) {
+        CheckedStake::Some(sum) => {
+            if sum.inner() == 0 {
+                Refusal::Number(TOTAL_ZERO)
+            } else {
+                Refusal::None
+            }
+        }
+        CheckedStake::None => Refusal::Number(SUM_PAST),
+    }
+}
+
+// 10, for the counts of n validators and k seats.
+pub fn bad_counts(counts: &[u32], n: usize, k: usize) -> bool
+    requires { ⌜ n ≤ length (now counts) ⌝ }
+    requires { ⌜ k ≤ 4294967295 ⌝ }
+    ensures { λ r. ⌜ r ≡ countLimit (now (counts .entry)) n k .applies ⌝ }
+{
+    let limit = (4_294_967_295 - k) as u32;
+    let mut i = 0;
+    while i < n {
+        if limit < counts[i] {
+            return true;
+        }
+        i += 1;
+    }
+    false
+}

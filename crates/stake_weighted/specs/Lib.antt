@@ -1,0 +1,3 @@
+pub mod Seats
+pub mod Calls
+pub mod Answers

@@ -1,0 +1,215 @@
+// Samplers that pick validators in proportion to their stake.
+//
+// The stakes are an epoch's list, the words of chance a list that is read from a cursor on. A call checks its input, then draws,
+// and only then writes to the buffer that it was lent.
+use draws::weighted;
+use draws::weighted::Weighted;
+use refusals::Refusal;
+use types::ValidatorIndex;
+use words::Words;
+ghost use Prim.Native.Nat.{_≤_, _<_};
+ghost use mathlib.Core.Path.{_≡_};
+ghost use lib.ListN.{length, drop};
+ghost use Rattle.laws.specs.Sums.{total, runningSums};
+ghost use Rattle.refusals.specs.declared.Refusal.the-variants.{None};
+ghost use Rattle.refusals.specs.Refusals.{lowest};
+ghost use Rattle.words.specs.Outcome.{bufferAfter};
+ghost use Rattle.words.specs.Stream.{stream};
+ghost use Rattle.draws.specs.Weighted.{weighted};
+ghost use Rattle.stake_weighted.specs.Seats.{iid, ids, iidSeats};
+ghost use Rattle.stake_weighted.specs.Calls.{quorumChecks, sample, quorum};
+ghost use Rattle.stake_weighted.specs.Answers.{sampleAnswer, quorumAnswer, seatsSays};
+
+// A sampler that picks one validator.
+pub struct StakeWeightedSampler {}
+
+// A sampler that picks a committee of k, each seat by itself.
+pub struct IidQuorumSampler {
+    inner: StakeWeightedSampler,
+    k: usize,
+}
+
+// A validator that was picked, and how many words were read.
+pub struct Sample {
+    pub id: ValidatorIndex,
+    pub words_read: usize,
+}
+
+pub enum SampleAnswer {
+    Accepted(Sample),
+    Refused(u64),
+}
+
+// A committee, whose seats stand in the lent buffer: how many words were read.
+pub struct Quorum {
+    pub words_read: usize,
+}
+
+pub enum QuorumAnswer {
+    Accepted(Quorum),
+    Refused(u64),
+}
+
+// How drawing seats ends.
+pub enum Seats {
+    Drawn,
+    NoWord,
+}
+
+impl StakeWeightedSampler {
+    pub fn new() -> Self {
+        Self {}
+    }
+
+    // One validator.
+    pub fn sample(self, stakes: &[u64], list: &[u64], cursor: usize) -> SampleAnswer
+        ensures { λ r. ⌜ r ≡ sampleAnswer (drop cursor (now (list .entry))) (sample (now (stakes .entry)) (drop cursor (now (list .entry)))) ⌝ }
+    {
+        match quorum_refusal(stakes, 1, 1) {
+            Refusal::None => draw_sample(stakes, list, cursor),
+            Refusal::Number(n) => SampleAnswer::Refused(n),
+        }
+    }
+}
+
+impl IidQuorumSampler {
+    pub fn new(inner: StakeWeightedSampler, k: usize) -> Self
+        ensures { λ r. ⌜ r .k ≡ k ⌝ }
+    {
+        Self { inner, k }
+    }
+
+    // The size of a committee.
+    pub fn quorum_size(self) -> usize
+        ensures { λ r. ⌜ r ≡ self .k ⌝ }
+    {
+        self.k
+    }
+
+    // A committee of k, written to the front of seats.
+    pub fn sample_quorum(
+        self,
+        stakes: &[u64],
+        list: &[u64],
+        cursor: usize,
+        seats: &mut [u64],
+    ) -> QuorumAnswer
+        ensures { λ r. ⌜ r ≡ quorumAnswer (drop cursor (now (list .entry))) (quorum (now (stakes .entry)) (self .k) (length (now (seats .entry))) (drop cursor (now (list .entry)))) ⌝ }
+        ensures { λ r. ⌜ now (seats .exit) ≡ bufferAfter (quorum (now (stakes .entry)) (self .k) (length (now (seats .entry))) (drop cursor (now (list .entry)))) ids (now (seats .entry)) ⌝ }
+    {
+        let k = self.k;
+        match quorum_refusal(stakes, k, seats.len()) {
+            Refusal::None => draw_quorum(stakes, k, list, cursor, seats),
+            Refusal::Number(n) => QuorumAnswer::Refused(n),
+        }
+    }
+}
+
+// What turns a call down, for k seats and so many places to write them to.
+fn quorum_refusal(stakes: &[u64], k: usize, room: usize) -> Refusal
+    ensures { λ r. ⌜ r ≡ lowest (quorumChecks (now (stakes .entry)) k room) ⌝ }
+{
+    if refusals::bad_list_length(stakes.len()) {
+        return Refusal::Number(refusals::LIST_LENGTH);
+    }
+    if refusals::bad_size(k) {
+        return Refusal::Number(refusals::SIZE);
+    }
+    if room < k {
+        return Refusal::Number(refusals::SHORT_BUFFER);
+    }
+    refusals::bad_sum(stakes)
+}
+
+// One validator, by a call that is not turned down.
+fn draw_sample(stakes: &[u64], list: &[u64], cursor: usize) -> SampleAnswer
+    requires { ⌜ lowest (quorumChecks (now stakes) 1 1) ≡ None ⌝ }
+    ensures { λ r. ⌜ r ≡ sampleAnswer (drop cursor (now (list .entry))) (weighted (now (stakes .entry)) (drop cursor (now (list .entry)))) ⌝ }
+{
+    let n = stakes.len();
+    let mut sums = [0u64; 4096];
+    weighted::running_sums(stakes, &mut sums);
+    let mut words = words::listed(list, cursor);
+    let left = words::words_left(list, &words);
+    match weighted::draw_weighted(list, &mut words, stakes, &sums[..n]) {
+        Weighted::At(place) => SampleAnswer::Accepted(Sample {
+            id: ValidatorIndex::new(place.at as u64),
+            words_read: left - words::words_left(list, &words),
+        }),
+        Weighted::NoWord => SampleAnswer::Refused(refusals::NO_WORD_LEFT),
+    }
+}
+
+// Fills seats by weighted draws from weights, whose running sums are given.
+pub fn draw_seats(
+    list: &[u64],
+    words: &mut Words,
+    weights: &[u64],
+    sums: &[u64],
+    seats: &mut [u64],
+) -> Seats
+    requires { ⌜ now sums ≡ runningSums (now weights) ⌝ }
+    requires { ⌜ 0 < total (now weights) ⌝ }
+    ensures { λ r. ⌜ seatsSays r (now (seats .exit)) (stream (now (list .entry)) (now (words .exit))) ≡ iidSeats (length (now (seats .entry))) (now (weights .entry)) (stream (now (list .entry)) (now (words .entry))) ⌝ }
+{
+    let mut i = 0;
+    while i < seats.len() {
+        match weighted::draw_weighted(list, words, weights, sums) {
+            Weighted::At(place) => {
+                seats[i] = place.at as u64;
+                i += 1;
+            }
+            Weighted::NoWord => {
+                return Seats::NoWord;
+            }
+        }
+    }
+    Seats::Drawn
+}
+
+// A committee of as many seats as drawn has places, stored to seats once all are drawn.
+fn fill_quorum(
+    stakes: &[u64],
+    sums: &[u64],
+    list: &[u64],
+    cursor: usize,
+    drawn: &mut [u64],
+    seats: &mut [u64],
+) -> QuorumAnswer
+    requires { ⌜ now sums ≡ runningSums (now stakes) ⌝ }
+    requires { ⌜ 0 < total (now stakes) ⌝ }
+    requires { ⌜ length (now drawn) ≤ length (now seats) ⌝ }
+    ensures { λ r. ⌜ r ≡ quorumAnswer (drop cursor (now (list .entry))) (iid (length (now (drawn .entry))) (now (stakes .entry)) (drop cursor (now (list .entry)))) ⌝ }
+    ensures { λ r. ⌜ now (seats .exit) ≡ bufferAfter (iid (length (now (drawn .entry))) (now (stakes .entry)) (drop cursor (now (list .entry)))) ids (now (seats .entry)) ⌝ }
+{
+    let mut words = words::listed(list, cursor);
+    let left = words::words_left(list, &words);
+    match draw_seats(list, &mut words, stakes, sums, drawn) {
+        Seats::Drawn => {
+            buffers::store(drawn, seats);
+            QuorumAnswer::Accepted(Quorum {
+                words_read: left - words::words_left(list, &words),
+            })
+        }
+        Seats::NoWord => QuorumAnswer::Refused(refusals::NO_WORD_LEFT),
+    }
+}
+
+// A committee of k, by a call that is not turned down.
+fn draw_quorum(
+    stakes: &[u64],
+    k: usize,
+    list: &[u64],
+    cursor: usize,
+    seats: &mut [u64],
+) -> QuorumAnswer
+    requires { ⌜ lowest (quorumChecks (now stakes) k (length (now seats))) ≡ None ⌝ }
+    ensures { λ r. ⌜ r ≡ quorumAnswer (drop cursor (now (list .entry))) (iid k (now (stakes .entry)) (drop cursor (now (list .entry)))) ⌝ }
+    ensures { λ r. ⌜ now (seats .exit) ≡ bufferAfter (iid k (now (stakes .entry)) (drop cursor (now (list .entry)))) ids (now (seats .entry)) ⌝ }
+{
+    let n = stakes.len();
+    let mut sums = [0u64; 4096];
+    weighted::running_sums(stakes, &mut sums);
+    let mut drawn = [0u64; 1024];
+    fill_quorum(stakes, &sums[..n], list, cursor, &mut drawn[..k], seats)
+}
