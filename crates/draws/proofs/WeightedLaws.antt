@@ -14,7 +14,7 @@ use Rattle.words.specs.Outcome.{accepted}
 use Rattle.words.proofs.Outcomes.{Went, went, NoLonger, accepted-no-longer, next-no-longer}
 use Rattle.draws.specs.declared.weighted.Place.{Place}
 use Rattle.draws.specs.Below.{below}
-use Rattle.draws.specs.Weighted.{firstAbove, chosen, remainder, placeOf, weighted, Rising}
+use Rattle.draws.specs.Weighted.{firstAbove, chosen, remainder, placeOf, weighted, Rising, Placed}
 use Rattle.draws.proofs.BelowLaws.{drawn-lt, below-no-longer}
 
 -- r is the smallest place whose number exceeds v: no number before it does, and the number there does, if there is one
@@ -120,11 +120,7 @@ pub some-weight : (weights : List ℕ) → 0 < total weights → 0 < length weig
 some-weight [] h = absurd (omega arith)
 some-weight (x ∷ xs) h = omega arith
 
--- what an accepted weighted draw gives: a place of the list, and a remainder below the weight there
-pub record Placed (weights : List ℕ) (p : Place) : Type 0 where
-  pub within : p .at < length weights
-  pub below-weight : p .remainder < getD weights (p .at) 0
-
+-- what an accepted weighted draw gives
 pub placed : (weights ws : List ℕ) {p : Place} {left : List ℕ} → 0 < total weights → weighted weights ws ≡ accepted p left → Placed weights p
 placed weights ws {p} {left} h e =
     let g : Went (below (total weights) ws) (λ v left. accepted (placeOf weights v) left) p left = went _ _ e in

@@ -30,6 +30,16 @@ placeOf weights v = record { at = chosen weights v; remainder = remainder weight
 abbrev pub weighted : List ℕ → List ℕ → Outcome Place
 weighted weights ws = next (below (total weights) ws) (λ v left. accepted (placeOf weights v) left)
 
+-- p is a place of the weights, and its remainder is below the weight there: so that weight is above 0
+pub record Placed (weights : List ℕ) (p : Place) : Type 0 where
+  pub within : p .at < length weights
+  pub below-weight : p .remainder < getD weights (p .at) 0
+
+-- and so is each of several
+abbrev pub AllPlaced : List ℕ → List Place → Type 0
+AllPlaced weights [] = Unit {0}
+AllPlaced weights (p ∷ ps) = Placed weights p × AllPlaced weights ps
+
 -- the numbers of a list never fall
 abbrev pub Rising : List ℕ → Type 0
 Rising xs = (i j : ℕ) → i ≤ j → j < length xs → getD xs i 0 ≤ getD xs j 0

@@ -1,10 +1,10 @@
 -- Laws of a buffer that is filled from the front, over any element.
 use Prim.Native.Nat.{ℕ, suc, _+_, _≤_, _<_}
-use mathlib.Core.Path.{_≡_, refl, sym, ap, _∙_}
-use mathlib.Core.List.{List, _++_}
+use mathlib.Core.Path.{_≡_, refl, sym, ap, _∙_, subst}
+use mathlib.Core.List.{List, _++_, append-nil}
 use native.Mathlib.Numerals.{add-one}
 use native.Mathlib.Omega.{arith}
-use lib.ListN.{length, getD, set, take, drop, length-set}
+use lib.ListN.{length, getD, set, take, drop, replicate, length-set, length-replicate, getD-replicate, drop-of-length-le}
 use lib.Seq.{append-snoc, drop-cons, take-suc, set-at, length-take-le, take-all}
 
 -- the first i values stand before what the buffer held; one store adds the next value
@@ -38,3 +38,19 @@ pub stored-all : {A : Type 0} {values held buffer : List A} {i : ℕ} → length
 stored-all {values = values} {held = held} {i = i} l s =
     let e : i ≡ length values = omega (arith, s .within) in
     s .holds ∙ ap (λ (j : ℕ). take j values ++ drop j held) e ∙ ap (λ (xs : List _). xs ++ drop (length values) held) (take-all (length values) values (omega arith))
+
+-- one value is stored to every place
+pub filled-next : {A : Type 0} (a : A) {held buffer : List A} {i : ℕ} → i < length buffer → Stored (replicate (length held) a) held buffer i →
+    Stored (replicate (length held) a) held (set buffer i a) (i + 1)
+filled-next a {held} {buffer} {i} l s =
+    let n = length-replicate (length held) a in
+    subst (λ b. Stored (replicate (length held) a) held (set buffer i b) (i + 1)) (getD-replicate (length held) i a a (omega (arith, s .long)))
+    (stored-next a (omega (arith, n, s .long)) (omega (arith, n)) s)
+
+pub filled-all : {A : Type 0} (a : A) {held buffer : List A} {i : ℕ} → length buffer ≤ i → Stored (replicate (length held) a) held buffer i →
+    buffer ≡ replicate (length held) a
+filled-all a {held} {buffer} {i} l s =
+    let n = length-replicate (length held) a in
+    stored-all (omega (arith, n, s .long)) s
+    ∙ ap (λ xs. replicate (length held) a ++ xs) (drop-of-length-le held {i = length (replicate (length held) a)} (omega (arith, n)))
+    ∙ append-nil (replicate (length held) a)

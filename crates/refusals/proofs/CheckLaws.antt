@@ -1,5 +1,5 @@
 -- Laws of the checks.
-use Prim.Native.Nat.{ℕ, zero, suc, _+_, _^_, _≤_, _<_}
+use Prim.Native.Nat.{ℕ, zero, suc, _+_, _-_, _^_, _≤_, _<_}
 use mathlib.Core.Path.{_≡_, refl, sym, ap, _∙_}
 use mathlib.Core.Bool.{Bool, true, false, cond, _||_}
 use mathlib.Core.List.{List, [], _∷_}
@@ -12,7 +12,7 @@ use borrow.Author.Tests.{ltb-false, leb-false, lt-ltb, le-ltb, le-leb, lt-leb, n
 use Rattle.laws.specs.Sums.{total}
 use Rattle.refusals.specs.declared.Refusal.{Refusal}
 use Rattle.refusals.specs.declared.Refusal.the-variants.{None, Number}
-use Rattle.refusals.specs.Refusals.{Check, lowest, listLength, sumPast, totalZero, anyAbove}
+use Rattle.refusals.specs.Refusals.{Check, lowest, listLength, sumPast, totalZero, anyAbove, countLimit}
 
 -- where no check applies, the first does not, nor any after it
 pub record Passed (c : Check) (cs : List Check) : Type 0 where
@@ -50,6 +50,12 @@ none-above limit (x ∷ xs) e i l = go (ltb limit x) refl (none-above limit xs) 
     go false t ih e zero l = ltb-false limit x t
     go false t ih e (suc i) l = ih e i (omega arith)
 
+-- counts that may rise by k
+pub counts-low : (counts : List ℕ) (n k : ℕ) → n ≤ length counts → k ≤ 4294967295 → countLimit counts n k .applies ≡ false →
+    (i : ℕ) → i < n → getD counts i 0 + k ≤ 4294967295
+counts-low counts n k h l e i m =
+    omega (arith, none-above (4294967295 - k) (take n counts) e i (omega (arith, length-take-le n counts h)), getD-take n counts i 0 m)
+
 -- a search for a number above the limit: what is left from place i on gives what the whole gives
 pub record Searched (xs : List ℕ) (n limit i : ℕ) : Type 0 where
   pub within : i ≤ n
@@ -85,6 +91,21 @@ sum-zero stakes e = rw (e)
 
 pub sum-fine : (stakes : List ℕ) → total stakes < 2 ^ 64 → (total stakes ≡ 0 → ⊥) → sumRefusal stakes ≡ None
 sum-fine stakes h e = rw (lt-leb (2 ^ 64) (total stakes) h, ne-eqb (total stakes) 0 e)
+
+-- further checks come after the sum's
+pub after-sum-none : (stakes : List ℕ) (cs : List Check) → sumRefusal stakes ≡ None → lowest (sumPast stakes ∷ totalZero stakes ∷ cs) ≡ lowest cs
+after-sum-none stakes cs e =
+    let p = passed (sumPast stakes) (totalZero stakes ∷ []) e in
+    let q = passed (totalZero stakes) [] (p .rest) in
+    rw (p .head, q .head)
+
+pub after-sum-number : (stakes : List ℕ) (cs : List Check) (n : ℕ) → sumRefusal stakes ≡ Number n → lowest (sumPast stakes ∷ totalZero stakes ∷ cs) ≡ Number n
+after-sum-number stakes cs n e = go (sumPast stakes .applies) refl (totalZero stakes .applies) refl
+  where
+    go : (a : Bool) → sumPast stakes .applies ≡ a → (b : Bool) → totalZero stakes .applies ≡ b → lowest (sumPast stakes ∷ totalZero stakes ∷ cs) ≡ Number n
+    go true s b t = rw s (rw s at e)
+    go false s true t = rw (s, t) (rw (s, t) at e)
+    go false s false t = absurd (let f : None ≡ Number n = rw (s, t) at e in let z : _≡_ {A = ℕ} 0 1 = cc in omega arith)
 
 -- what holds of the sum where neither applies
 pub record Summed (stakes : List ℕ) : Type 0 where

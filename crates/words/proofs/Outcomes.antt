@@ -73,3 +73,12 @@ goes-on r o e = ap (λ (x : Refusal). unless x o) e
 
 pub turned-down : {A : Type 0} (r : Refusal) (o : Outcome A) {n : ℕ} → r ≡ Number n → unless r o ≡ refused n
 turned-down r o e = ap (λ (x : Refusal). unless x o) e
+
+-- a call that is accepted was not turned down
+pub record Unrefused {A : Type 0} (r : Refusal) (o : Outcome A) (a : A) (left : List ℕ) : Type 0 where
+  pub none : r ≡ None
+  pub is : o ≡ accepted a left
+
+pub unrefused : {A : Type 0} (r : Refusal) (o : Outcome A) {a : A} {left : List ℕ} → unless r o ≡ accepted a left → Unrefused r o a left
+unrefused None o e = record { none = refl; is = e }
+unrefused (Number n) o e = absurd (let z : _≡_ {A = ℕ} 0 1 = cc in omega arith)

@@ -1,0 +1,62 @@
+-- The answers of this crate: the refusal's number, or the values that an accepted call carries; and what the counts then hold.
+use Prim.Native.Nat.{ℕ}
+use mathlib.Core.List.{List}
+use lib.ListN.{length, replicate}
+use Rattle.refusals.specs.Refusals.{noWordLeft}
+use Rattle.words.specs.Outcome.{Outcome, refused, accepted, next, wordsRead}
+use Rattle.decaying_acceptance.specs.declared.Try.{Try}
+use Rattle.decaying_acceptance.specs.declared.Tried.{Tried}
+use Rattle.decaying_acceptance.specs.declared.Tried.the-variants as tried
+use Rattle.decaying_acceptance.specs.declared.Seat.{Seat}
+use Rattle.decaying_acceptance.specs.declared.DrawnSeat.{DrawnSeat}
+use Rattle.decaying_acceptance.specs.declared.DrawnSeat.the-variants as drawnSeat
+use Rattle.decaying_acceptance.specs.declared.DrawnSeats.{DrawnSeats}
+use Rattle.decaying_acceptance.specs.declared.DrawnSeats.the-variants as drawnSeats
+use Rattle.decaying_acceptance.specs.declared.SampleAnswer.{SampleAnswer}
+use Rattle.decaying_acceptance.specs.declared.SampleAnswer.the-variants as sample
+use Rattle.decaying_acceptance.specs.declared.QuorumAnswer.{QuorumAnswer}
+use Rattle.decaying_acceptance.specs.declared.QuorumAnswer.the-variants as quorum
+use Rattle.decaying_acceptance.specs.Seats.{Committee, raised, ids}
+
+-- of `sample_one`: the validator, the tries made and the words read
+abbrev pub sampleAnswer : List ℕ → Outcome Seat → SampleAnswer
+sampleAnswer ws (refused n) = sample.Refused n
+sampleAnswer ws (accepted s left) =
+    sample.Accepted (record { id = record { 0 = s .place .at }; tries = s .tries; «words_read» = wordsRead ws left })
+
+-- one seat raises one count
+abbrev pub countsAfter : Outcome Seat → List ℕ → List ℕ
+countsAfter (refused n) counts = counts
+countsAfter (accepted s left) counts = raised counts (s .place .at)
+
+-- of `sample_quorum`: the tries made over all seats and the words read
+abbrev pub quorumAnswer : List ℕ → Outcome Committee → QuorumAnswer
+quorumAnswer ws (refused n) = quorum.Refused n
+quorumAnswer ws (accepted c left) = quorum.Accepted (record { tries = c .tries; «words_read» = wordsRead ws left })
+
+-- a committee "leaves n zeros"
+abbrev pub zeros : List ℕ → Committee → List ℕ
+zeros stakes c = replicate (length stakes) 0
+
+-- of `make_try`, with the words that are left
+abbrev pub triedSays : Tried → List ℕ → Outcome Try
+triedSays (tried.Made t) left = accepted t left
+triedSays tried.NoWord left = refused noWordLeft
+
+-- of `draw_seat`, likewise
+abbrev pub seatSays : DrawnSeat → List ℕ → Outcome Seat
+seatSays (drawnSeat.Drawn s) left = accepted s left
+seatSays (drawnSeat.Refused n) left = refused n
+
+-- the ids of a committee's seats, and the tries
+pub record Seated : Type 0 where
+  pub seats : List ℕ
+  pub tries : ℕ
+
+abbrev pub seated : Outcome Committee → Outcome Seated
+seated o = next o (λ c left. accepted (record { seats = ids c; tries = c .tries }) left)
+
+-- of `draw_seats`, with what the buffer then holds and the words that are left
+abbrev pub seatsSays : DrawnSeats → List ℕ → List ℕ → Outcome Seated
+seatsSays (drawnSeats.Drawn tries) held left = accepted (record { seats = held; tries = tries }) left
+seatsSays (drawnSeats.Refused n) held left = refused n

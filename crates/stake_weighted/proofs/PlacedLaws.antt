@@ -1,0 +1,38 @@
+-- What holds of every accepted call.
+use Prim.Native.Nat.{ℕ, zero, suc, _<_}
+use mathlib.Core.Path.{_≡_, refl, ap}
+use mathlib.Core.List.{List, [], _∷_}
+use Rattle.laws.specs.Sums.{total}
+use Rattle.refusals.specs.Refusals.{lowest}
+use Rattle.words.specs.Outcome.{Outcome, accepted, next}
+use Rattle.words.proofs.Outcomes.{Went, went, unrefused}
+use Rattle.draws.specs.declared.weighted.Place.{Place}
+use Rattle.draws.specs.Weighted.{weighted}
+use Rattle.draws.proofs.WeightedLaws.{placed}
+use Rattle.stake_weighted.specs.Seats.{iid}
+use Rattle.stake_weighted.specs.Calls.{sampleChecks, quorumChecks}
+use Rattle.stake_weighted.specs.Laws.{SamplePlaced, Committee, QuorumPlaced}
+use Rattle.stake_weighted.proofs.CallLaws.{admitted}
+
+pub sample-placed : SamplePlaced
+sample-placed stakes ws p left e =
+    let u = unrefused (lowest (sampleChecks stakes)) (weighted stakes ws) e in
+    placed stakes ws (admitted stakes 1 1 (u .none) .sum .above) (u .is)
+
+pub iid-placed : (k : ℕ) (weights ws : List ℕ) {places : List Place} {left : List ℕ} → 0 < total weights → iid k weights ws ≡ accepted places left →
+    Committee k weights places
+iid-placed zero weights ws {places} h e =
+    let q : _≡_ {A = List Place} [] places = cc in
+    rw (← q) (record { size = refl; placed = tt })
+iid-placed (suc k) weights ws {places} {left} h e =
+    let f : Place → List ℕ → Outcome (List Place) = λ p rest. next (iid k weights rest) (λ ps rest. accepted (p ∷ ps) rest) in
+    let g : Went (weighted weights ws) f places left = went _ _ e in
+    let b : Went (iid k weights (g .words)) (λ ps rest. accepted (g .value ∷ ps) rest) places left = went _ _ (g .then) in
+    let j = iid-placed k weights (g .words) h (b .first) in
+    let q : g .value ∷ b .value ≡ places = cc in
+    rw (← q) (record { size = ap suc (j .size); placed = (placed weights ws h (g .first), j .placed) })
+
+pub quorum-placed : QuorumPlaced
+quorum-placed stakes k room ws places left e =
+    let u = unrefused (lowest (quorumChecks stakes k room)) (iid k stakes ws) e in
+    iid-placed k stakes ws (admitted stakes k room (u .none) .sum .above) (u .is)
