@@ -16,10 +16,10 @@ use Rattle.refusals.proofs.CheckLaws.{passed, Listed, listed, Summed, summed}
 use Rattle.types.specs.declared.validator_index.ValidatorIndex.{ValidatorIndex}
 use Rattle.words.specs.Outcome.{Outcome, refused, accepted, bufferAfter}
 use Rattle.words.proofs.Outcomes.{goes-on, turned-down}
-use Rattle.decaying_acceptance.specs.declared.Seat.{Seat}
-use Rattle.decaying_acceptance.specs.declared.SampleAnswer.the-variants as one
-use Rattle.decaying_acceptance.specs.declared.QuorumAnswer.{QuorumAnswer}
-use Rattle.decaying_acceptance.specs.declared.QuorumAnswer.the-variants as many
+use Rattle.decaying_acceptance.specs.declared.tries.Seat.{Seat}
+use Rattle.decaying_acceptance.specs.declared.answers.SampleAnswer.the-variants as one
+use Rattle.decaying_acceptance.specs.declared.answers.QuorumAnswer.{QuorumAnswer}
+use Rattle.decaying_acceptance.specs.declared.answers.QuorumAnswer.the-variants as many
 use Rattle.decaying_acceptance.specs.Seats.{seat, raised, Committee, committee, ids}
 use Rattle.decaying_acceptance.specs.Calls.{oneChecks, quorumChecks}
 use Rattle.decaying_acceptance.specs.Calls as calls

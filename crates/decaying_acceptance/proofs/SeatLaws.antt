@@ -13,7 +13,7 @@ use lib.Ieee.{Float}
 use borrow.Author.Tests.{eqb-true, eqb-false}
 use Rattle.words.specs.Outcome.{Outcome, refused, accepted, next}
 use Rattle.words.proofs.Outcomes.{NoLonger, accepted-no-longer, next-no-longer}
-use Rattle.decaying_acceptance.specs.declared.Seat.{Seat}
+use Rattle.decaying_acceptance.specs.declared.tries.Seat.{Seat}
 use Rattle.decaying_acceptance.specs.Seats.{seat, raised, Committee, committee, ids}
 use Rattle.decaying_acceptance.specs.Answers.{Seated, seated}
 use Rattle.decaying_acceptance.proofs.TryLaws.{seat-no-longer}

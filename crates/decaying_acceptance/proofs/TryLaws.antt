@@ -15,8 +15,8 @@ use Rattle.draws.specs.Weighted.{weighted, Placed}
 use Rattle.draws.specs.Fraction.{fraction}
 use Rattle.draws.proofs.WeightedLaws.{placed, weighted-no-longer}
 use Rattle.draws.proofs.FractionLaws.{fraction-no-longer}
-use Rattle.decaying_acceptance.specs.declared.Try.{Try}
-use Rattle.decaying_acceptance.specs.declared.Seat.{Seat}
+use Rattle.decaying_acceptance.specs.declared.tries.Try.{Try}
+use Rattle.decaying_acceptance.specs.declared.tries.Seat.{Seat}
 use Rattle.decaying_acceptance.specs.Seats.{accepts, try, seat}
 
 module _ (stakes counts : List ℕ) (max : Float) where

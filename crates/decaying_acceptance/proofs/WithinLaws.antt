@@ -9,7 +9,7 @@ use Rattle.laws.specs.Sums.{total}
 use Rattle.refusals.specs.Refusals.{lowest}
 use Rattle.words.specs.Outcome.{Outcome, accepted, next}
 use Rattle.words.proofs.Outcomes.{Went, went, unrefused}
-use Rattle.decaying_acceptance.specs.declared.Seat.{Seat}
+use Rattle.decaying_acceptance.specs.declared.tries.Seat.{Seat}
 use Rattle.decaying_acceptance.specs.Seats.{seat, raised, Committee, committee}
 use Rattle.decaying_acceptance.specs.Calls.{oneChecks, quorumChecks}
 use Rattle.decaying_acceptance.specs.Laws.{SeatWithin, OneWithin, CommitteeWithin, QuorumWithin}

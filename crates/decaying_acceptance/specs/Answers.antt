@@ -4,18 +4,18 @@ use mathlib.Core.List.{List}
 use lib.ListN.{length, replicate}
 use Rattle.refusals.specs.Refusals.{noWordLeft}
 use Rattle.words.specs.Outcome.{Outcome, refused, accepted, next, wordsRead}
-use Rattle.decaying_acceptance.specs.declared.Try.{Try}
-use Rattle.decaying_acceptance.specs.declared.Tried.{Tried}
-use Rattle.decaying_acceptance.specs.declared.Tried.the-variants as tried
-use Rattle.decaying_acceptance.specs.declared.Seat.{Seat}
-use Rattle.decaying_acceptance.specs.declared.DrawnSeat.{DrawnSeat}
-use Rattle.decaying_acceptance.specs.declared.DrawnSeat.the-variants as drawnSeat
-use Rattle.decaying_acceptance.specs.declared.DrawnSeats.{DrawnSeats}
-use Rattle.decaying_acceptance.specs.declared.DrawnSeats.the-variants as drawnSeats
-use Rattle.decaying_acceptance.specs.declared.SampleAnswer.{SampleAnswer}
-use Rattle.decaying_acceptance.specs.declared.SampleAnswer.the-variants as sample
-use Rattle.decaying_acceptance.specs.declared.QuorumAnswer.{QuorumAnswer}
-use Rattle.decaying_acceptance.specs.declared.QuorumAnswer.the-variants as quorum
+use Rattle.decaying_acceptance.specs.declared.tries.Try.{Try}
+use Rattle.decaying_acceptance.specs.declared.tries.Tried.{Tried}
+use Rattle.decaying_acceptance.specs.declared.tries.Tried.the-variants as tried
+use Rattle.decaying_acceptance.specs.declared.tries.Seat.{Seat}
+use Rattle.decaying_acceptance.specs.declared.tries.DrawnSeat.{DrawnSeat}
+use Rattle.decaying_acceptance.specs.declared.tries.DrawnSeat.the-variants as drawnSeat
+use Rattle.decaying_acceptance.specs.declared.quorum.DrawnSeats.{DrawnSeats}
+use Rattle.decaying_acceptance.specs.declared.quorum.DrawnSeats.the-variants as drawnSeats
+use Rattle.decaying_acceptance.specs.declared.answers.SampleAnswer.{SampleAnswer}
+use Rattle.decaying_acceptance.specs.declared.answers.SampleAnswer.the-variants as sample
+use Rattle.decaying_acceptance.specs.declared.answers.QuorumAnswer.{QuorumAnswer}
+use Rattle.decaying_acceptance.specs.declared.answers.QuorumAnswer.the-variants as quorum
 use Rattle.decaying_acceptance.specs.Seats.{Committee, raised, ids}
 
 -- of `sample_one`: the validator, the tries made and the words read

@@ -11,7 +11,7 @@ use Rattle.laws.specs.Floats.{zeroF}
 use Rattle.words.specs.Outcome.{accepted}
 use Rattle.draws.specs.Weighted.{Placed, AllPlaced}
 use Rattle.draws.specs.Fraction.{fractionOf}
-use Rattle.decaying_acceptance.specs.declared.Seat.{Seat}
+use Rattle.decaying_acceptance.specs.declared.tries.Seat.{Seat}
 use Rattle.decaying_acceptance.specs.Seats.{accepts, Committee}
 use Rattle.decaying_acceptance.specs.Calls.{one, quorum}
 

@@ -10,8 +10,8 @@ use Rattle.words.specs.Outcome.{Outcome, refused, accepted, next}
 use Rattle.draws.specs.declared.weighted.Place.{Place}
 use Rattle.draws.specs.Weighted.{weighted}
 use Rattle.draws.specs.Fraction.{fraction}
-use Rattle.decaying_acceptance.specs.declared.Try.{Try}
-use Rattle.decaying_acceptance.specs.declared.Seat.{Seat}
+use Rattle.decaying_acceptance.specs.declared.tries.Try.{Try}
+use Rattle.decaying_acceptance.specs.declared.tries.Seat.{Seat}
 
 -- "accepted if the fraction is at least the count over `max_samples`, divided once in f64"
 unfoldable pub accepts : ℕ → Float → Float → Bool
