@@ -11,6 +11,7 @@ SEED = 20_250_101
 TOP = 2**64 - 1
 HALF = 2**63
 MAX_COUNT = 2**32 - 1
+GOLDEN = 11400714819323198485
 LENGTHS = (0, 1, 2, 15, 16, 17, 255, 256, 257, 272, 273)
 LONG_LENGTHS = (4_095, 4_096, 4_097)
 SIZES = (0, 1, 2, 1_023, 1_024, 1_025)
@@ -250,6 +251,11 @@ def plenty(rng):
     return lambda need: [rng.randrange(2**64) for _ in range(need + need // 4 + 20)]
 
 
+def spread(need):
+    """Words that are spread evenly, and more than are needed."""
+    return [i * GOLDEN % 2**64 for i in range(need + need // 4 + 20)]
+
+
 def length_cases(rng):
     """Every length for every operation over a list; the long ones once."""
     supply = plenty(rng)
@@ -371,6 +377,67 @@ def last_try_cases(_rng):
                    counts=[1], words=[0, half])
 
 
+def later_try_cases(_rng):
+    """The same for a committee, at its only seat and at its second."""
+    for allowed in (1, 2, 5, 100_000):
+        settings = {"max_samples": bits_of(2.0), "allowed": allowed}
+        rejected = [0, 0] * (min(allowed, 5) - 1)
+        for last in ([0, HALF], [0, HALF - 1], [0, HALF - 1, 0, HALF], [0], []):
+            yield case("decaying", stakes=[1], k=1, **settings, counts=[1], words=rejected + last)
+            yield case("decaying", stakes=[1], k=2, **settings, counts=[0],
+                       words=[0, 0] + rejected + last)
+
+
+def rejected_once_cases(_rng):
+    """Every `max_samples`: count 0 is accepted, count 1 at a half or not, then count 0 again."""
+    supply = [0, 0, 0, HALF, 3, 0]
+    for max_samples in MAX_SAMPLES:
+        settings = {"max_samples": bits_of(max_samples), "allowed": 100_000}
+        yield case("decaying", stakes=[3, 0, 4], k=2, **settings, counts=[0] * 3, words=supply)
+        yield case("decaying_one", stakes=[3, 0, 4], **settings, counts=[1, 0, 0],
+                   words=supply[2:])
+
+
+def dry_try_cases(_rng):
+    """Words that run out at every place of tries that are accepted with all of them."""
+    supply = [0, 0, 0, HALF - 1, 1, 0, 0, HALF, 1, HALF]
+    for n in range(len(supply) + 1):
+        yield case("decaying", stakes=[1, 1], k=3, **DECAYING, counts=[1, 0], words=supply[:n])
+        yield case("decaying_one", stakes=[1, 1], **DECAYING, counts=[1, 0], words=supply[:n])
+
+
+def long_list_cases(_rng):
+    """No list, the longest with the largest committee too, and one that is longer; small stakes."""
+    for n, k in ((0, 1), (4_096, 1), (4_097, 1), (4_096, 1_024)):
+        yield from sampler_cases([i % 3 for i in range(n)], k, spread)
+
+
+def zero_stake_cases(_rng):
+    """Zeros first, in the middle and last, with every value that a draw can give."""
+    for stakes in ([0, 2, 3], [2, 0, 3], [2, 3, 0], [0, 2, 0, 3, 0]):
+        yield from sampler_cases(stakes, 3, spread)
+        for value in range(5):
+            yield from sampler_cases(stakes, 1, lambda need, word=value: [word] * need)
+
+
+def skip_cases(_rng):
+    """Words that are skipped: below 2^63 + 1 that is every word from there on."""
+    stakes, settings = [HALF, 0, 1], {**DECAYING, "counts": [1] * 3}
+    for draw in ([HALF + 1, 5], [TOP, HALF + 1, HALF], [HALF], [TOP], [TOP, TOP, TOP]):
+        yield case("iid", stakes=stakes, k=1, words=draw)
+        yield case("iid", stakes=stakes, k=2, words=[0] + draw)
+        yield case("fa1_draws", stakes=stakes, k=1, words=draw)
+        for rest in ([], [HALF], [HALF - 1]):
+            yield from decaying_pair({"stakes": stakes, **settings}, 1, draw + rest)
+            yield case("decaying", stakes=stakes, k=2, **settings, words=[0, HALF] + draw + rest)
+
+
+def lowest_cases(_rng):
+    """A count past the limit, with no word or with stakes that are turned down before it."""
+    for stakes in ([TOP, 1], [0, 0], [1, 1]):
+        yield from decaying_pair({"stakes": stakes, **DECAYING, "counts": [MAX_COUNT, 0]}, 1, [])
+
+
 def view_cases(rng):
     for fanout in FANOUTS:
         for n in (1, 2, 17, 40):
@@ -380,7 +447,8 @@ def view_cases(rng):
 
 
 LIMITS = (length_cases, size_cases, sum_cases, worked_cases, whole_seat_cases, no_seat_cases,
-          dry_cases, decaying_cases, last_try_cases, view_cases)
+          dry_cases, decaying_cases, last_try_cases, later_try_cases, rejected_once_cases,
+          dry_try_cases, long_list_cases, zero_stake_cases, skip_cases, lowest_cases, view_cases)
 
 
 def cases(n):

@@ -43,6 +43,10 @@ class Words:
         self.read += 1
         return self.words[self.read - 1]
 
+    def past(self, cursor):
+        """The words from a cursor on; none where it is past the end."""
+        return Words(self.words[cursor:])
+
 
 # ---- Drawing ----
 
@@ -165,6 +169,10 @@ def decaying_committee(stakes, k, max_samples, allowed, counts, words):
     return seats, all_tries
 
 
+def reset_counts(counts):
+    return [0] * len(counts)
+
+
 # ---- Shuffle and view ----
 
 def counted_weights(stakes):
@@ -236,11 +244,14 @@ def eight_bytes(number):
 
 # ---- Reasons to turn a call down, from the input ----
 
-def check_seats(stakes, k=0, least_k=0, allowed=1, max_samples=1.0):
+def check_seats(stakes, k=0, least_k=0, allowed=1, max_samples=1.0, room=None, counts=None):
+    """`room` is how many seats the lent buffer takes, where one is lent."""
     refuse_if(1, not 1 <= len(stakes) <= MAX_LIST)
     refuse_if(2, not least_k <= k <= MAX_SEATS)
     refuse_if(3, not 1 <= allowed <= MAX_TRIES)
     refuse_if(4, not max_samples > 0)
+    refuse_if(7, room is not None and room < k)
+    refuse_if(7, counts is not None and len(counts) < len(stakes))
     refuse_if(8, sum(stakes) >= WORD_END)
     refuse_if(9, sum(stakes) == 0)
 
@@ -256,6 +267,8 @@ def check_counts(stakes, counts, k):
 
 
 # ---- Operations: the fields of a case to the fields of its answer ----
+# `cursor` and `room` are fields of stored cases alone: the place in the list from which words are
+# read, and the seats that the lent buffer takes.
 
 OPERATIONS = {}
 
@@ -287,8 +300,9 @@ def answer_list_shuffle(list, words):
 
 
 @operation
-def answer_iid(stakes, k, words):
-    check_seats(stakes, k)
+def answer_iid(stakes, k, words, cursor=0, room=None):
+    check_seats(stakes, k, room=room)
+    words = words.past(cursor)
     return {"seats": iid_seats(stakes, k, words), "read": words.read}
 
 
@@ -323,10 +337,11 @@ def answer_fa1_draws(stakes, k, words):
 
 
 @operation
-def answer_decaying(stakes, k, max_samples, allowed, counts, words):
+def answer_decaying(stakes, k, max_samples, allowed, counts, words, cursor=0, room=None):
     """The committee starts from the stored counts and leaves n zeros."""
-    check_seats(stakes, k, allowed=allowed, max_samples=max_samples)
+    check_seats(stakes, k, allowed=allowed, max_samples=max_samples, room=room, counts=counts)
     check_counts(stakes, counts, k)
+    words = words.past(cursor)
     seats, tries = decaying_committee(stakes, k, max_samples, allowed, counts, words)
     n = len(stakes)
     return {"seats": seats, "counts": [0] * n + counts[n:],
@@ -334,9 +349,10 @@ def answer_decaying(stakes, k, max_samples, allowed, counts, words):
 
 
 @operation
-def answer_decaying_one(stakes, max_samples, allowed, counts, words):
-    check_seats(stakes, allowed=allowed, max_samples=max_samples)
+def answer_decaying_one(stakes, max_samples, allowed, counts, words, cursor=0):
+    check_seats(stakes, allowed=allowed, max_samples=max_samples, counts=counts)
     check_counts(stakes, counts, 1)
+    words = words.past(cursor)
     seat, tries = decaying_seat(stakes, max_samples, allowed, counts, words)
     return {"seat": seat, "counts": counts, "tries": tries, "read": words.read}
 

@@ -3,11 +3,13 @@
 
 `store.py --check` writes nothing and ends with 1 if a stored list is not what
 would be written. The cases are some of those that compare.py holds against the
-oracle; what they expect is the model's answer.
+oracle; what they expect is the model's answer. Cases of the samplers get a
+cursor and lent buffers besides, and are picked so that limits.py is met.
 
-A stored case is a line: the number of the operation and its name, its fields,
+A stored case is a line: the number of the function and its name, its fields,
 then `answer:` with 0 and the fields of the answer, or with the refusal's number.
-A list is its length, then its numbers. Names hold no digit.
+A list is its length, then its numbers. Numbers stand before lists, and names
+hold no digit.
 """
 
 import sys
@@ -15,15 +17,31 @@ from pathlib import Path
 
 import model
 from cases import cases
+from limits import LIMITS, TOP, Stored
 
 CRATES = Path(__file__).resolve().parents[2] / "crates"
 COMPARED = 20_000
-LONGEST = 2_000
+DRAWS_OF_EACH, DRAWS_LONGEST = 100, 2_000
+OF_EACH, RESETS, LONGEST = 150, 30, 1_500
 
-# The operation in FORMAT.md: its function, in the order of the operations' numbers.
-DRAWS = {"below": "draw_below", "fraction": "draw_fraction", "weighted": "draw_weighted",
-         "list_shuffle": "shuffle_list"}
+# The functions of each program, in the order of their numbers, and the operation in FORMAT.md that
+# their cases are taken from.
+PROGRAMS = {
+    "draws_cases": {"draw_below": "below", "draw_fraction": "fraction",
+                    "draw_weighted": "weighted", "shuffle_list": "list_shuffle"},
+    "stake_weighted_cases": {"sample": "iid", "sample_quorum": "iid"},
+    "decaying_acceptance_cases": {"sample_one": "decaying_one", "sample_quorum": "decaying",
+                                  "reset": "decaying_one"},
+}
 
+# Words that stand before the cursor.
+PASSED = [7046029254386353131, 1609587929392839161, 9650029242287828579]
+CURSORS = (0, 1, 3)
+# Counts that stand past those of the list.
+MORE_COUNTS = [model.MAX_COUNT, 5]
+
+
+# ---- Lines ----
 
 def write_field(name, value):
     if isinstance(value, list):
@@ -31,44 +49,172 @@ def write_field(name, value):
     return f"{name}={value}"
 
 
-def stored_answer(operation, fields):
-    """The answer's fields, a fraction by its numerator over 2^53."""
+def write_fields(fields):
+    """Numbers first."""
+    ordered = sorted(fields.items(), key=lambda field: isinstance(field[1], list))
+    return [write_field(name, value) for name, value in ordered]
+
+
+def stored_line(program, function, stored):
+    number = list(PROGRAMS[program]).index(function) + 1
+    answer = [str(stored.refusal), *write_fields(stored.answer)]
+    return " ".join([str(number), function, *write_fields(stored.given), "answer:", *answer]) + "\n"
+
+
+def read_fields(tokens):
+    """The fields that the tokens spell."""
+    fields, at = {}, 0
+    while at < len(tokens):
+        name, equals, value = tokens[at].partition("=")
+        if equals:
+            fields[name], at = int(value), at + 1
+        else:
+            end = at + 2 + int(tokens[at + 1])
+            fields[name.rstrip(":")], at = [int(token) for token in tokens[at + 2:end]], end
+    return fields
+
+
+def read_line(line):
+    """The function of a stored line, and its case."""
+    _, function, *tokens = line.split()
+    at = tokens.index("answer:")
+    given, answer = tokens[:at], tokens[at + 2:]
+    return function, Stored(read_fields(given), int(tokens[at + 1]), read_fields(answer))
+
+
+# ---- Answers ----
+
+def answer_of(function, operation, given):
+    """The fields of the model's answer as they are stored."""
+    if function == "reset":
+        return {"counts": model.reset_counts(given["counts"])}
+    if function == "sample":
+        answer = model.answer_fields(operation, {**given, "k": 1})
+        return {"id": answer["seats"][0], "read": answer["read"]}
+    answer = model.answer_fields(operation, given)
+    if function == "draw_fraction":
+        # By its numerator over 2^53.
+        answer = {"numerator": int(model.f64_of(answer["bits"]) * 2**53), "read": answer["read"]}
+    return answer
+
+
+def answered(function, operation, given):
     try:
-        answer = model.answer_fields(operation, fields)
+        return Stored(given, 0, answer_of(function, operation, given))
     except model.Refused as refused:
-        return str(refused.number)
-    if operation == "fraction":
-        numerator = int(model.f64_of(answer["bits"]) * 2**53)
-        answer = {"numerator": numerator, "read": answer["read"]}
-    return " ".join(["0", *(write_field(name, value) for name, value in answer.items())])
+        return Stored(given, refused.number, {})
 
 
-def stored_case(functions, line):
-    operation, fields = model.read_case(line)
-    number = list(functions).index(operation) + 1
-    given = " ".join(write_field(name, value) for name, value in fields.items())
-    return f"{number} {functions[operation]} {given} answer: {stored_answer(operation, fields)}\n"
-
-
-def chosen(compared, functions, of_each, long):
-    """The first short cases of each operation, and those long ones that are asked for."""
-    lines = []
-    for operation in functions:
-        own = [line for line in compared if line.split(" ", 1)[0] == operation]
-        lines += [line for line in own if len(line) <= LONGEST][:of_each]
-        lines += [line for line in own if long(operation, line)]
-    return "".join(stored_case(functions, line) for line in lines)
-
+# ---- Cases of the draws ----
 
 def is_whole_shuffle(operation, line):
     """The shuffle of the longest list."""
-    return operation == "list_shuffle" and line.count(",", 0, line.find("words")) == model.MAX_LIST - 1
+    before_words = line[:line.find("words")]
+    return operation == "list_shuffle" and before_words.count(",") == model.MAX_LIST - 1
 
+
+def draw_lines(program, function, own):
+    """The first short cases, and the longest list."""
+    operation = PROGRAMS[program][function]
+    lines = [line for line in own if len(line) <= DRAWS_LONGEST][:DRAWS_OF_EACH]
+    lines += [line for line in own if is_whole_shuffle(operation, line)]
+    return [stored_line(program, function, answered(function, operation, model.read_case(line)[1]))
+            for line in lines]
+
+
+# ---- Cases of the samplers ----
+
+def lent(given, i):
+    """A case from a cursor on, with a buffer of k seats or a few more, and counts past the list."""
+    cursor = CURSORS[i % 3]
+    given = {**given, "cursor": cursor, "words": PASSED[:cursor] + given["words"]}
+    if "k" in given:
+        given["room"] = given["k"] + i % 4
+    if "counts" in given and i % 5 == 0:
+        given["counts"] = given["counts"] + MORE_COUNTS[:1 + i % 2]
+    return given
+
+
+def variants(given, i):
+    """The case as lent and, of some, what a short buffer or a cursor past the end makes of it."""
+    yield lent(given, i)
+    if given.get("k", 0) > 0 and i % 3 == 0:
+        yield {**lent(given, i), "room": given["k"] - 1}
+    if given.get("counts") and i % 3 == 1:
+        yield {**lent(given, i), "counts": given["counts"][:-1]}
+    if i % 3 == 2:
+        yield {**lent(given, i), "cursor": TOP if i % 2 else len(given["words"]) + 5}
+
+
+def without_unread(stored, i):
+    """Without the words that are not read, but for two at most."""
+    if stored.past_end:
+        kept = i % 3
+    elif stored.refusal in (12, 13):
+        return stored
+    else:
+        kept = stored.given["cursor"] + stored.answer.get("read", 0) + i % 3
+    return stored._replace(given={**stored.given, "words": stored.given["words"][:kept]})
+
+
+def sampler_cases(function, operation, own):
+    """Every case that could be stored, in the order of those compared."""
+    for i, line in enumerate(own):
+        given = model.read_case(line)[1]
+        if function == "sample" and given.pop("k") != 1:
+            continue
+        for variant in variants(given, i):
+            yield without_unread(answered(function, operation, variant), i)
+
+
+def reset_cases(own):
+    for line in own:
+        counts = model.read_case(line)[1]["counts"]
+        yield answered("reset", None, {"counts": counts})
+
+
+def picked(candidates, limits, of_each):
+    """For each limit two short lines that meet it, or a long one; then accepted calls from all
+    over."""
+    by_length = sorted(candidates, key=len)
+    meeting = {name: [line for line in by_length if holds(candidates[line])]
+               for name, holds in limits.items()}
+    if missing := [name for name, lines in meeting.items() if not lines]:
+        sys.exit(f"no case shows: {', '.join(missing)}")
+    chosen = set()
+    # The limits that need a long line come first, since that line may meet others.
+    for lines in sorted(meeting.values(), key=lambda lines: len(lines[0]), reverse=True):
+        if not chosen.intersection(lines):
+            chosen.add(lines[0])
+        chosen.update(line for line in lines[:2] if len(line) <= LONGEST)
+    others = [line for line, case in candidates.items()
+              if case.accepted and len(line) <= LONGEST and line not in chosen]
+    more = max(of_each - len(chosen), 0)
+    chosen.update(others[::max(len(others) // max(more, 1), 1)][:more])
+    return [line for line in candidates if line in chosen]
+
+
+def sampler_lines(program, function, own):
+    operation = PROGRAMS[program][function]
+    stored = reset_cases(own) if function == "reset" else sampler_cases(function, operation, own)
+    candidates = {stored_line(program, function, case): case for case in stored}
+    return picked(candidates, LIMITS[program][function],
+                  RESETS if function == "reset" else OF_EACH)
+
+
+# ---- The lists ----
 
 def lists():
     """Each stored list's path and its text."""
     compared = cases(COMPARED)
-    return {CRATES / "draws_cases" / "stdin": chosen(compared, DRAWS, 100, is_whole_shuffle)}
+    texts = {}
+    for program, functions in PROGRAMS.items():
+        lines = []
+        for function, operation in functions.items():
+            own = [line for line in compared if line.split(" ", 1)[0] == operation]
+            lines += (sampler_lines if program in LIMITS else draw_lines)(program, function, own)
+        texts[CRATES / program / "stdin"] = "".join(lines)
+    return texts
 
 
 def main():

@@ -1,12 +1,15 @@
 #!/usr/bin/env python3
 """Tests of the model: the marked cases, the worked numbers, every refusal at
-its limits, words running out, and properties over random inputs."""
+its limits, words running out, and properties over random inputs. And of the
+stored lists: what limits.py names is in them."""
 
 import math
 import random
 import unittest
 
 import model
+import store
+from limits import LIMITS
 from model import Refused, Words
 
 TOP = 2**64 - 1
@@ -187,6 +190,14 @@ class Iid(unittest.TestCase):
         for n in range(3):
             self.assertEqual(ask("iid", stakes=[1, 2], k=3, words=[0] * n), 12)
 
+    def test_cursor(self):
+        fields = {"stakes": [0, 2, 0, 3], "k": 2, "words": [9, 0, 3]}
+        self.assertEqual(ask("iid", **fields, cursor=1), {"seats": [1, 3], "read": 2})
+        for cursor in (2, 3, 4, TOP):
+            self.assertEqual(ask("iid", **fields, cursor=cursor), 12)
+        fields["k"] = 0
+        self.assertEqual(ask("iid", **fields, cursor=TOP), {"seats": [], "read": 0})
+
 
 class Decaying(unittest.TestCase):
     def one(self, count, max_samples, words, allowed=1):
@@ -228,6 +239,22 @@ class Decaying(unittest.TestCase):
         for n in range(10):
             self.assertEqual(self.committee(words[:n]), 12)
         self.assertEqual(self.committee(words, allowed=1), 13)
+
+    def test_cursor(self):
+        fields = {"stakes": [1], "max_samples": 2.0, "allowed": 1, "counts": [1],
+                  "words": [0, HALF - 1, 0, HALF]}
+        self.assertEqual(ask("decaying_one", **fields, cursor=0), 13)
+        answer = ask("decaying_one", **fields, cursor=2)
+        self.assertEqual(answer, {"seat": 0, "counts": [2], "tries": 1, "read": 2})
+        answer = ask("decaying", k=1, **fields, cursor=2)
+        self.assertEqual(answer, {"seats": [0], "counts": [0], "tries": 1, "read": 2})
+        for cursor in (3, 4, 5, TOP):
+            self.assertEqual(ask("decaying", k=1, **fields, cursor=cursor), 12)
+            self.assertEqual(ask("decaying_one", **fields, cursor=cursor), 12)
+
+    def test_reset(self):
+        self.assertEqual(model.reset_counts([3, 0, MAX_COUNT]), [0, 0, 0])
+        self.assertEqual(model.reset_counts([]), [])
 
     def test_no_seats_leave_zeros(self):
         nothing = {"seats": [], "counts": [0, 0], "tries": 0, "read": 0}
@@ -460,6 +487,31 @@ class Refusals(unittest.TestCase):
         for own in (2, TOP):
             self.assertEqual(ask("turbine", stakes=[1, 1], fanout=1, own=own, words=words), 6)
 
+    def test_7_room(self):
+        for operation in ("iid", "decaying"):
+            for k in (1, 3, 1_024):
+                more = {"k": k, "words": [0] * 2_048}
+                more.update({"max_samples": math.inf} if operation == "decaying" else {})
+                for room in (k, k + 1):
+                    self.assertAccepted(self.call(operation, [1, 2], room=room, **more))
+                for room in (0, k - 1):
+                    self.assertEqual(self.call(operation, [1, 2], room=room, **more), 7)
+            self.assertAccepted(self.call(operation, [1, 2], k=0, room=0))
+
+    def test_7_counts(self):
+        for operation in self.DECAYING:
+            for counts in ([0, 0], [0, 0, MAX_COUNT]):
+                self.assertAccepted(self.call(operation, [1, 2], counts=counts))
+            for counts in ([], [0], [MAX_COUNT]):
+                self.assertEqual(self.call(operation, [1, 2], counts=counts), 7)
+
+    def test_7_is_before_8_and_9(self):
+        for stakes in ([TOP, 1], [0, 0]):
+            for operation in ("iid", "decaying"):
+                self.assertEqual(self.call(operation, stakes, room=0), 7)
+            for operation in self.DECAYING:
+                self.assertEqual(self.call(operation, stakes, counts=[0]), 7)
+
     def test_8_sum(self):
         for operation in self.SAMPLERS:
             self.assertAccepted(self.call(operation, [TOP - 1, 1]))
@@ -494,7 +546,8 @@ class Refusals(unittest.TestCase):
 
     def test_lowest_of_decaying(self):
         faults = [(2, {"k": 1_025}), (3, {"allowed": 0}), (4, {"max_samples": 0.0}),
-                  (9, {"stakes": [0]}), (10, {"counts": [MAX_COUNT]}), (12, {"words": []})]
+                  (7, {"room": 0}), (9, {"stakes": [0]}), (10, {"counts": [MAX_COUNT]}),
+                  (12, {"words": []})]
         case = {"stakes": [1], "k": 1, "max_samples": 1.0, "allowed": 1,
                 "counts": [0], "words": [0, 0]}
         self.assertAccepted(ask("decaying", **case))
@@ -619,6 +672,47 @@ class Lines(unittest.TestCase):
         self.assertEqual(" ".join(model.OPERATIONS),
                          "below fraction weighted list_shuffle iid partition fa1_bins fa1_draws "
                          "decaying decaying_one tree shuffle turbine turbine_seed rotor_seed")
+
+
+class StoredLists(unittest.TestCase):
+    """The lists as they are stored in crates/."""
+
+    REFUSALS = {"sample": {1, 8, 9, 12}, "sample_one": {1, 3, 4, 7, 8, 9, 10, 12, 13},
+                "sample_quorum": {1, 2, 7, 8, 9, 12}, "reset": set()}
+    OF_DECAYING_COMMITTEES = {3, 4, 10, 13}
+
+    def lines(self, program):
+        return (store.CRATES / program / "stdin").read_text().splitlines(keepends=True)
+
+    def by_function(self):
+        """Each program, its function and the function's stored cases."""
+        for program, functions in LIMITS.items():
+            stored = [store.read_line(line) for line in self.lines(program)]
+            for function in functions:
+                yield program, function, [case for name, case in stored if name == function]
+
+    def test_every_limit_is_stored(self):
+        for program, function, own in self.by_function():
+            for limit, holds in LIMITS[program][function].items():
+                with self.subTest(program=program, function=function, limit=limit):
+                    self.assertTrue(any(map(holds, own)))
+
+    def test_every_refusal_is_stored(self):
+        for program, function, own in self.by_function():
+            numbers = self.REFUSALS[function]
+            if program.startswith("decaying") and function == "sample_quorum":
+                numbers = numbers | self.OF_DECAYING_COMMITTEES
+            with self.subTest(program=program, function=function):
+                self.assertEqual({case.refusal for case in own} - {0}, numbers)
+
+    def test_lines_are_read_as_they_were_written(self):
+        for program in LIMITS:
+            for line in self.lines(program):
+                self.assertEqual(store.stored_line(program, *store.read_line(line)), line)
+
+    def test_programs_have_room(self):
+        for program in store.PROGRAMS:
+            self.assertLess(sum(map(len, self.lines(program))), 250_000)
 
 
 if __name__ == "__main__":

@@ -16,14 +16,14 @@ pub fn store(values: &[u64], buffer: &mut [u64])
     }
 }
 
-// The same for u32.
-pub fn store_u32(values: &[u32], buffer: &mut [u32])
-    requires { ⌜ length (now values) ≤ length (now buffer) ⌝ }
-    ensures { λ _. ⌜ now (buffer .exit) ≡ now (values .entry) ++ drop (length (now (values .entry))) (now (buffer .entry)) ⌝ }
+// The same for u32 counts.
+pub fn store_u32(counts: &[u32], buffer: &mut [u32])
+    requires { ⌜ length (now counts) ≤ length (now buffer) ⌝ }
+    ensures { λ _. ⌜ now (buffer .exit) ≡ now (counts .entry) ++ drop (length (now (counts .entry))) (now (buffer .entry)) ⌝ }
 {
     let mut i = 0;
-    while i < values.len() {
-        buffer[i] = values[i];
+    while i < counts.len() {
+        buffer[i] = counts[i];
         i += 1;
     }
 }

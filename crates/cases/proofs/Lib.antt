@@ -1,3 +1,4 @@
 pub mod NumberLaws
+pub mod BufferLaws
 pub mod ListLaws
 pub mod Examples

@@ -6,9 +6,10 @@ use mathlib.Core.List.{List, _++_}
 use native.Mathlib.Numerals.{add-one}
 use native.Mathlib.Omega.{arith}
 use lib.ListN.{length, set, take, length-set, length-append}
-use lib.Seq.{take-suc-set, take-append-le, length-take-le}
+use lib.Seq.{take-suc-set, take-append-le}
 use borrow.Author.Tests.{le-leb, lt-leb}
 use Rattle.io.specs.Counts.{Counts}
+use Rattle.cases.proofs.BufferLaws.{counts}
 use Rattle.cases.specs.declared.Number.{Number}
 use Rattle.cases.specs.declared.Numbers.{Numbers}
 use Rattle.cases.specs.Numbers.{numberAt}
@@ -66,4 +67,4 @@ module _ (room : ℕ) (text : List ℕ) (at : ℕ) (r : Number) (e : r ≡ numbe
 
 -- a count within the front of a buffer
 pub front-counts : (n : ℕ) (front back : List ℕ) → n ≤ length front → Counts n (front ++ back)
-front-counts n front back h = let l : n ≤ length (front ++ back) = simp length-append (omega arith) in (l, sym (length-take-le n (front ++ back) l))
+front-counts n front back h = counts n (front ++ back) (simp length-append (omega arith))

@@ -1,9 +1,10 @@
 -- Lists of numbers in a text.
 use Prim.Native.Nat.{ℕ, zero, suc}
+use mathlib.Core.Path.{_≡_}
 use mathlib.Core.Bool.{cond, _&&_}
 use mathlib.Core.List.{List, [], _∷_, _++_}
 use lib.Dec.{leb}
-use lib.ListN.{take}
+use lib.ListN.{length, take}
 use Rattle.cases.specs.declared.Numbers.{Numbers}
 use Rattle.cases.specs.Numbers.{numberAt}
 
@@ -32,3 +33,7 @@ listAt room text at =
 -- what an answer says, with what the buffer then holds
 abbrev pub numbersSays : Numbers → List ℕ → Taken
 numbersSays r out = cond (r .found) (took (take (r .count) out) (r .next)) short
+
+-- a list begins with another
+abbrev pub Begins : List ℕ → List ℕ → Type 0
+Begins a b = take (length b) a ≡ b

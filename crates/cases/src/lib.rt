@@ -1,20 +1,42 @@
 // Stored lists of cases: the numbers of a text, and the line that says how many cases agree.
 //
 // A number is a run of decimal digits. Every other byte separates numbers, so that a text may name what its numbers are.
-ghost use Prim.Native.Nat.{_≤_};
+ghost use Prim.Native.Nat.{ℕ, _≤_, _<_, _-_};
 ghost use mathlib.Core.Path.{_≡_};
 ghost use mathlib.Core.Bool.{true};
-ghost use lib.ListN.{length, drop};
+ghost use lib.ListN.{length, getD, drop};
 ghost use Rattle.io.specs.Counts.{Counts};
 ghost use Rattle.cases.specs.Numbers.{isDigit, rest, numberAt, Onward};
-ghost use Rattle.cases.specs.Lists.{numbersAt, listAt, numbersSays};
+ghost use Rattle.cases.specs.Lists.{numbersAt, listAt, numbersSays, Begins};
+use libc::STDIN_FILENO;
 use libc::STDOUT_FILENO;
+
+mod replay;
+
+pub use replay::Expected;
+pub use replay::Given;
+pub use replay::Verdict;
+pub use replay::accepted;
+pub use replay::count_case;
+pub use replay::formed_if;
+pub use replay::malformed;
+pub use replay::read_expected;
+pub use replay::read_expected_list;
+pub use replay::read_inputs;
+pub use replay::read_words;
+pub use replay::refused;
 
 // A number that was read, and the place after it.
 pub struct Number {
     pub found: bool,
     pub value: u64,
     pub next: usize,
+}
+
+// Whether numbers were copied, and how many.
+pub struct Copied {
+    pub fits: bool,
+    pub count: usize,
 }
 
 // Whether all numbers that were asked for are there, how many they are, and the place after them. None counts where one is missing.
@@ -123,6 +145,40 @@ pub fn read_list(text: &[u8], at: usize, out: &mut [u64]) -> Numbers
     read_numbers(text, next, &mut out[..count])
 }
 
+// Whether list a begins with list b.
+pub fn begins(a: &[u64], b: &[u64]) -> bool
+    ensures { λ r. ⌜ (r ≡ true → Begins (now (a .entry)) (now (b .entry))) × (Begins (now (a .entry)) (now (b .entry)) → r ≡ true) ⌝ }
+{
+    if a.len() < b.len() {
+        return false;
+    }
+    let mut i = 0;
+    while i < b.len() {
+        if a[i] != b[i] {
+            return false;
+        }
+        i += 1;
+    }
+    true
+}
+
+// Whether list a begins with the counts b.
+pub fn begins_u32(a: &[u64], b: &[u32]) -> bool
+    ensures { λ r. ⌜ (r ≡ true → Begins (now (a .entry)) (now (b .entry))) × (Begins (now (a .entry)) (now (b .entry)) → r ≡ true) ⌝ }
+{
+    if a.len() < b.len() {
+        return false;
+    }
+    let mut i = 0;
+    while i < b.len() {
+        if a[i] != b[i] as u64 {
+            return false;
+        }
+        i += 1;
+    }
+    true
+}
+
 // Whether two lists are equal.
 pub fn same(a: &[u64], b: &[u64]) -> bool
     ensures { λ r. ⌜ (r ≡ true → now (a .entry) ≡ now (b .entry)) × (now (a .entry) ≡ now (b .entry) → r ≡ true) ⌝ }
@@ -130,14 +186,64 @@ pub fn same(a: &[u64], b: &[u64]) -> bool
     if a.len() != b.len() {
         return false;
     }
+    begins(a, b)
+}
+
+// Copies numbers to the front of out, as counts. None counts where one exceeds a u32 or has no place.
+pub fn copy_counts(numbers: &[u64], out: &mut [u32]) -> Copied
+    ensures { λ r. ⌜ (r .fits ≡ true → Begins (now (out .exit)) (now (numbers .entry)) × (r .count ≡ length (now (numbers .entry)))) ⌝ }
+    ensures { λ r. ⌜ Counts (r .count) (now (out .exit)) ⌝ }
+{
     let mut i = 0;
-    while i < a.len() {
-        if a[i] != b[i] {
-            return false;
+    while i < numbers.len() {
+        let number = numbers[i];
+        if out.len() <= i || 0xffff_ffff < number {
+            return Copied {
+                fits: false,
+                count: 0,
+            };
         }
+        out[i] = number as u32;
         i += 1;
     }
-    true
+    Copied {
+        fits: true,
+        count: i,
+    }
+}
+
+// Fills a buffer with numbers that all differ, and that no answer has: 2^64 - 1 at the first place, and so on down.
+pub fn prefill(buffer: &mut [u64])
+    ensures { λ _. ⌜ ((i : ℕ) → i < length (now (buffer .entry)) → getD (now (buffer .exit)) i 0 ≡ 18446744073709551615 - i) ⌝ }
+{
+    let mut i = 0;
+    while i < buffer.len() {
+        buffer[i] = 0xffff_ffff_ffff_ffff - i as u64;
+        i += 1;
+    }
+}
+
+// How many places of a buffer a call is lent: as many as are asked for, or all.
+pub fn places(buffer: &[u64], asked: u64) -> usize
+    ensures { λ r. ⌜ Counts r (now (buffer .entry)) ⌝ }
+{
+    if asked < buffer.len() as u64 {
+        asked as usize
+    } else {
+        buffer.len()
+    }
+}
+
+// Reads the input to the front of text. One that leaves no place counts as empty, after a word on it.
+pub fn read_text(text: &mut [u8]) -> usize
+    ensures { λ r. ⌜ Counts r (now (text .exit)) ⌝ }
+{
+    let n = io::read_full(STDIN_FILENO, text);
+    if text.len() <= n {
+        io::write_all(STDOUT_FILENO, b"input too long\n");
+        return 0;
+    }
+    n
 }
 
 // Prints how many cases of an operation agree.

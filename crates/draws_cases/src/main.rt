@@ -1,7 +1,6 @@
 // Replays stored cases of the draws, and prints for each operation how many agree.
-//
-// A case is its operation's number, the call's inputs, the words, and what the call is to answer: the refusal, which is 0 for a
-// call that is accepted, and of an accepted call its values and how many words it read. A list is its length and its numbers.
+use cases::Expected;
+use cases::Verdict;
 use draws::below;
 use draws::below::Below;
 use draws::fraction;
@@ -10,7 +9,6 @@ use draws::shuffle;
 use draws::shuffle::Shuffled;
 use draws::weighted;
 use draws::weighted::Weighted;
-use libc::STDIN_FILENO;
 use libc::STDOUT_FILENO;
 use types::CheckedStake;
 use types::Stake;
@@ -18,108 +16,10 @@ use words::Words;
 ghost use Prim.Native.Nat.{_≤_, _<_};
 ghost use mathlib.Core.Path.{_≡_};
 ghost use lib.ListN.{length};
-ghost use Rattle.io.specs.Counts.{Counts};
 ghost use Rattle.laws.specs.Sums.{total};
 
 // No word is left.
 const NO_WORD: u64 = 12;
-
-// What a case expects beside its values, and the place after it.
-struct Expected {
-    formed: bool,
-    refusal: u64,
-    next: usize,
-}
-
-// How many words a case has, and what it expects.
-struct Given {
-    count: usize,
-    expected: Expected,
-}
-
-// What a case of a list shuffle expects beside the list's numbers: its length and the words read too.
-struct ExpectedList {
-    expected: Expected,
-    count: usize,
-    read: u64,
-}
-
-// Whether a case is well formed and whether it agrees, and the place after it.
-struct Verdict {
-    formed: bool,
-    agrees: bool,
-    next: usize,
-}
-
-// Reads what a case expects: the refusal and, where that is 0, the numbers of an accepted call.
-fn read_expected(text: &[u8], at: usize, numbers: &mut [u64]) -> Expected
-    ensures { λ r. ⌜ at ≤ r .next ⌝ }
-{
-    let refusal = cases::next_number(text, at);
-    let next = refusal.next;
-    if !refusal.found || refusal.value != 0 {
-        return Expected {
-            formed: refusal.found,
-            refusal: refusal.value,
-            next,
-        };
-    }
-    let read = cases::read_numbers(text, next, numbers);
-    Expected {
-        formed: read.found,
-        refusal: 0,
-        next: read.next,
-    }
-}
-
-// Reads a case's words to the front of list, and what it expects.
-fn read_words(text: &[u8], at: usize, list: &mut [u64], numbers: &mut [u64]) -> Given
-    ensures { λ r. ⌜ at ≤ r .expected .next ⌝ }
-    ensures { λ r. ⌜ Counts (r .count) (now (list .exit)) ⌝ }
-{
-    let words = cases::read_list(text, at, list);
-    let e = read_expected(text, words.next, numbers);
-    Given {
-        count: words.count,
-        expected: Expected {
-            formed: words.found && e.formed,
-            refusal: e.refusal,
-            next: e.next,
-        },
-    }
-}
-
-fn malformed(next: usize) -> Verdict
-    ensures { λ r. ⌜ r .next ≡ next ⌝ }
-{
-    Verdict {
-        formed: false,
-        agrees: false,
-        next,
-    }
-}
-
-// The call was refused.
-fn refused(e: Expected) -> Verdict
-    ensures { λ r. ⌜ r .next ≡ e .next ⌝ }
-{
-    Verdict {
-        formed: e.formed,
-        agrees: e.refusal == NO_WORD,
-        next: e.next,
-    }
-}
-
-// The call was accepted, and its values are those expected or not.
-fn accepted(e: Expected, same_values: bool) -> Verdict
-    ensures { λ r. ⌜ r .next ≡ e .next ⌝ }
-{
-    Verdict {
-        formed: e.formed,
-        agrees: e.refusal == 0 && same_values,
-        next: e.next,
-    }
-}
 
 // How many words of the list were read, from its start. No more than all are left, so nothing wraps.
 fn words_read(list: &[u64], words: &Words) -> u64 {
@@ -131,15 +31,15 @@ fn judge_below(list: &[u64], m: u64, e: Expected, wanted: &[u64; 2]) -> Verdict
     ensures { λ r. ⌜ r .next ≡ e .next ⌝ }
 {
     if m == 0 {
-        return malformed(e.next);
+        return cases::malformed(e.next);
     }
     let mut words = words::listed(list, 0);
     match below::draw_below(list, &mut words, m) {
         Below::Value(v) => {
             let read = words_read(list, &words);
-            accepted(e, v == wanted[0] && read == wanted[1])
+            cases::accepted(e, v == wanted[0] && read == wanted[1])
         }
-        Below::NoWord => refused(e),
+        Below::NoWord => cases::refused(e, NO_WORD, true),
     }
 }
 
@@ -150,7 +50,7 @@ fn below_case(text: &[u8], at: usize) -> Verdict
     let m = cases::next_number(text, at);
     let mut list = [0u64; 8192];
     let mut wanted = [0u64; 2];
-    let given = read_words(text, m.next, &mut list, &mut wanted);
+    let given = cases::read_words(text, m.next, &mut list, &mut wanted);
     let n = given.count;
     judge_below(&list[..n], m.value, given.expected, &wanted)
 }
@@ -168,9 +68,9 @@ fn judge_fraction(list: &[u64], e: Expected, wanted: &[u64; 2]) -> Verdict
     match fraction::draw_fraction(list, &mut words) {
         Fraction::Value(x) => {
             let read = words_read(list, &words);
-            accepted(e, is_fraction(x, wanted[0]) && read == wanted[1])
+            cases::accepted(e, is_fraction(x, wanted[0]) && read == wanted[1])
         }
-        Fraction::NoWord => refused(e),
+        Fraction::NoWord => cases::refused(e, NO_WORD, true),
     }
 }
 
@@ -180,7 +80,7 @@ fn fraction_case(text: &[u8], at: usize) -> Verdict
 {
     let mut list = [0u64; 8192];
     let mut wanted = [0u64; 2];
-    let given = read_words(text, at, &mut list, &mut wanted);
+    let given = cases::read_words(text, at, &mut list, &mut wanted);
     let n = given.count;
     judge_fraction(&list[..n], given.expected, &wanted)
 }
@@ -207,7 +107,7 @@ fn judge_weighted(
     ensures { λ r. ⌜ r .next ≡ e .next ⌝ }
 {
     if sum_or_zero(weights) == 0 {
-        return malformed(e.next);
+        return cases::malformed(e.next);
     }
     weighted::running_sums(weights, sums);
     let mut words = words::listed(list, 0);
@@ -215,12 +115,12 @@ fn judge_weighted(
     match weighted::draw_weighted(list, &mut words, weights, &sums[..n]) {
         Weighted::At(place) => {
             let read = words_read(list, &words);
-            accepted(
+            cases::accepted(
                 e,
                 place.at as u64 == wanted[0] && place.remainder == wanted[1] && read == wanted[2],
             )
         }
-        Weighted::NoWord => refused(e),
+        Weighted::NoWord => cases::refused(e, NO_WORD, true),
     }
 }
 
@@ -233,7 +133,7 @@ fn weighted_case(text: &[u8], at: usize) -> Verdict
     let k = weighed.count;
     let mut list = [0u64; 8192];
     let mut wanted = [0u64; 3];
-    let given = read_words(text, weighed.next, &mut list, &mut wanted);
+    let given = cases::read_words(text, weighed.next, &mut list, &mut wanted);
     let n = given.count;
     let mut sums = [0u64; 4096];
     judge_weighted(
@@ -245,46 +145,17 @@ fn weighted_case(text: &[u8], at: usize) -> Verdict
     )
 }
 
-// Reads what a case of a list shuffle expects, and the expected list to the front of wanted.
-fn read_expected_list(text: &[u8], at: usize, wanted: &mut [u64]) -> ExpectedList
-    ensures { λ r. ⌜ at ≤ r .expected .next ⌝ }
-    ensures { λ r. ⌜ Counts (r .count) (now (wanted .exit)) ⌝ }
+// A list shuffle, against the words read and the shuffled list.
+fn judge_shuffle(list: &[u64], items: &mut [u64], e: Expected, read: u64, wanted: &[u64]) -> Verdict
+    ensures { λ r. ⌜ r .next ≡ e .next ⌝ }
 {
-    // With no number to fill, only the refusal is read.
-    let mut none = [0u64; 0];
-    let e = read_expected(text, at, &mut none);
-    if !e.formed || e.refusal != 0 {
-        return ExpectedList {
-            expected: e,
-            count: 0,
-            read: 0,
-        };
-    }
-    let list = cases::read_list(text, e.next, wanted);
-    let read = cases::next_number(text, list.next);
-    ExpectedList {
-        expected: Expected {
-            formed: list.found && read.found,
-            refusal: 0,
-            next: read.next,
-        },
-        count: list.count,
-        read: read.value,
-    }
-}
-
-// A list shuffle, against the shuffled list and the words read.
-fn judge_shuffle(list: &[u64], items: &mut [u64], x: ExpectedList, wanted: &[u64]) -> Verdict
-    ensures { λ r. ⌜ r .next ≡ x .expected .next ⌝ }
-{
-    let e = x.expected;
     let mut words = words::listed(list, 0);
     match shuffle::shuffle_list(list, &mut words, items) {
         Shuffled::Done => {
-            let read = words_read(list, &words);
-            accepted(e, cases::same(items, wanted) && read == x.read)
+            let done = words_read(list, &words);
+            cases::accepted(e, done == read && cases::same(items, wanted))
         }
-        Shuffled::NoWord => refused(e),
+        Shuffled::NoWord => cases::refused(e, NO_WORD, true),
     }
 }
 
@@ -293,21 +164,25 @@ fn shuffle_case(text: &[u8], at: usize) -> Verdict
     ensures { λ r. ⌜ at ≤ r .next ⌝ }
 {
     let mut items = [0u64; 4096];
-    let given = cases::read_list(text, at, &mut items);
-    let k = given.count;
+    let listed = cases::read_list(text, at, &mut items);
+    let k = listed.count;
     let mut list = [0u64; 8192];
-    let word_list = cases::read_list(text, given.next, &mut list);
-    let n = word_list.count;
+    let mut read = [0u64; 1];
+    let given = cases::read_words(text, listed.next, &mut list, &mut read);
+    let n = given.count;
     let mut wanted = [0u64; 4096];
-    let x = read_expected_list(text, word_list.next, &mut wanted);
-    let w = x.count;
-    if !given.found || !word_list.found {
-        return malformed(x.expected.next);
-    }
-    judge_shuffle(&list[..n], &mut items[..k], x, &wanted[..w])
+    let answer = cases::read_expected_list(text, given.expected, &mut wanted);
+    let w = answer.count;
+    judge_shuffle(
+        &list[..n],
+        &mut items[..k],
+        cases::formed_if(answer.expected, listed.found),
+        read[0],
+        &wanted[..w],
+    )
 }
 
-// A case of the operation with that number; any other than 1, 2 and 3 is 4.
+// A case of the operation with that number.
 fn replay_case(text: &[u8], operation: u64, at: usize) -> Verdict
     ensures { λ r. ⌜ at ≤ r .next ⌝ }
 {
@@ -315,17 +190,8 @@ fn replay_case(text: &[u8], operation: u64, at: usize) -> Verdict
         1 => below_case(text, at),
         2 => fraction_case(text, at),
         3 => weighted_case(text, at),
-        _ => shuffle_case(text, at),
-    }
-}
-
-// Counts one case more, and one more that agrees if it does. A text has far fewer than 2^64 cases.
-fn count_case(agree: &mut [u64; 4], count: &mut [u64; 4], i: usize, agrees: bool)
-    requires { ⌜ i < 4 ⌝ }
-{
-    count[i] = std::num::wrapping_add_u64(count[i], 1);
-    if agrees {
-        agree[i] = std::num::wrapping_add_u64(agree[i], 1);
+        4 => shuffle_case(text, at),
+        _ => cases::malformed(at),
     }
 }
 
@@ -337,15 +203,11 @@ fn replay_cases(text: &[u8], agree: &mut [u64; 4], count: &mut [u64; 4]) -> bool
         if !operation.found {
             return operation.next == text.len();
         }
-        let number = operation.value;
-        if number < 1 || 4 < number {
-            return false;
-        }
-        let verdict = replay_case(text, number, operation.next);
+        let verdict = replay_case(text, operation.value, operation.next);
         if !verdict.formed {
             return false;
         }
-        count_case(agree, count, (number - 1) as usize, verdict.agrees);
+        cases::count_case(agree, count, operation.value, verdict.agrees);
         at = verdict.next;
     }
     true
@@ -353,11 +215,7 @@ fn replay_cases(text: &[u8], agree: &mut [u64; 4], count: &mut [u64; 4]) -> bool
 
 fn main() {
     let mut text = [0u8; 262144];
-    let n = io::read_full(STDIN_FILENO, &mut text);
-    if n == 262144 {
-        io::write_all(STDOUT_FILENO, b"input too long\n");
-        return;
-    }
+    let n = cases::read_text(&mut text);
     let mut agree = [0u64; 4];
     let mut count = [0u64; 4];
     if !replay_cases(&text[..n], &mut agree, &mut count) {

@@ -8,6 +8,9 @@ use native.Mathlib.Omega.{arith}
 use lib.Dec.{eqb}
 use lib.ListN.{length}
 use borrow.Author.Tests.{eqb-true}
+use lib.Ieee.{lt}
+use Rattle.draws.specs.Fraction.{fractionOf}
+use Rattle.decaying_acceptance.specs.Seats.{accepts}
 use Rattle.marked.specs.Table.{Row, table, rowOf}
 
 -- the test: two lists are equal
@@ -43,4 +46,5 @@ at-row (r ∷ rs) e (suc i) h = at-row rs (and-right (same (r .gives) (r .says))
 
 -- the marked cases
 pub marked : (i : ℕ) → i < length table → rowOf table i .gives ≡ rowOf table i .says
+unfolding lt fractionOf accepts
 marked i h = at-row table refl i h

@@ -1,4 +1,4 @@
--- `buffers::store_u32` meets its contract. The invariant: the first i values stand before what the buffer held.
+-- `buffers::store_u32` meets its contract. The invariant: the first i counts stand before what the buffer held.
 use Prim.Native.Nat.{_-_}
 use lib.ListN.{length}
 use Rattle.laws.proofs.Buffers.{Stored, stored-none, stored-next, stored-all}
@@ -7,10 +7,10 @@ use Rattle.buffers.proofs.store_u32.Statement.{statement}
 use Rattle.buffers.proofs.store_u32.Tie as tie
 
 abbrev Inv-loop : tie.InvT-loop
-Inv-loop values buffer₀ i₀ buffer i = Stored values buffer₀ buffer i
+Inv-loop counts buffer₀ i₀ buffer i = Stored counts buffer₀ buffer i
 
 abbrev μ-loop : tie.MeasureT-loop
-μ-loop values buffer₀ i₀ buffer i = length values - i
+μ-loop counts buffer₀ i₀ buffer i = length counts - i
 
 loop-holds : tie.Need-loop-holds Inv-loop μ-loop
 loop-holds c = stored-none _ _

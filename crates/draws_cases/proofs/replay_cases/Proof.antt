@@ -2,7 +2,7 @@
 use Prim.Native.Nat.{_-_}
 use native.Mathlib.Omega.{arith}
 use lib.ListN.{length}
-use borrow.Author.Tests.{ltb-false, not-false}
+use borrow.Author.Tests.{not-false}
 use borrow.Author.Needs.{needs}
 use Rattle.draws_cases.proofs.replay_cases.Statement.{statement}
 use Rattle.draws_cases.proofs.replay_cases.Tie as tie
@@ -22,30 +22,25 @@ next-number-requires c κs = search needs
 returns : tie.Need-returns Inv-loop μ-loop
 returns c = search needs
 
-returns-2 : tie.Need-returns-2 Inv-loop μ-loop
-returns-2 c = search needs
-
 replay-case-requires : tie.Need-replay-case-requires Inv-loop μ-loop
 replay-case-requires c κs = search needs
 
-returns-3 : tie.Need-returns-3 Inv-loop μ-loop
-returns-3 c = search needs
+returns-2 : tie.Need-returns-2 Inv-loop μ-loop
+returns-2 c = search needs
 
 count-case-requires : tie.Need-count-case-requires Inv-loop μ-loop
-count-case-requires c κs = omega (arith, ltb-false)
+count-case-requires c κs = search needs
 
 loop-less : tie.Need-loop-less Inv-loop μ-loop
 loop-less c =
-    let k = c .before .before .before .before .before in
-    let f = k .before .before .before in
-    let n = f .before .before .next-number in
-    omega (arith, n .ensures .1 .past (not-false _ (f .if1 .left)), k .replay-case .ensures)
+    let f = c .before .before .before .before .before .before in
+    omega (arith, f .before .before .next-number .ensures .1 .past (not-false _ (f .if1 .left)))
 
 loop-again : tie.Need-loop-again Inv-loop μ-loop
 loop-again c = search needs
 
-returns-4 : tie.Need-returns-4 Inv-loop μ-loop
-returns-4 c = search needs
+returns-3 : tie.Need-returns-3 Inv-loop μ-loop
+returns-3 c = search needs
 
 pub replay-cases-spec : {M : Type 1} → statement M
 replay-cases-spec =
@@ -56,10 +51,9 @@ replay-cases-spec =
     loop-holds
     next-number-requires
     returns
-    returns-2
     replay-case-requires
-    returns-3
+    returns-2
     count-case-requires
     loop-less
     loop-again
-    returns-4)
+    returns-3)
