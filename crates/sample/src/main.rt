@@ -1,28 +1,23 @@
-// Draws from a sample list of stakes and words, and prints what each draw gives.
-use draws::below;
-use draws::below::Below;
-use draws::fraction;
-use draws::fraction::Fraction;
-use draws::shuffle;
-use draws::shuffle::Shuffled;
-use draws::weighted;
-use draws::weighted::Place;
-use draws::weighted::Weighted;
+// Draws a validator and two committees from a sample list of stakes and words, and prints them.
+use decaying_acceptance::DecayingAcceptanceSampler;
+use decaying_acceptance::MAX_TRIES_PER_SAMPLE;
+use decaying_acceptance::QuorumAnswer as DecayingAnswer;
 use libc::STDOUT_FILENO;
-use types::CheckedStake;
-use types::Stake;
-use words::Words;
-ghost use Prim.Native.Nat.{_<_, _≤_};
-ghost use mathlib.Core.Path.{_≡_};
-ghost use lib.ListN.{length};
-ghost use Rattle.laws.specs.Sums.{total, runningSums};
+use stake_weighted::IidQuorumSampler;
+use stake_weighted::QuorumAnswer;
+use stake_weighted::SampleAnswer;
+use stake_weighted::StakeWeightedSampler;
 
 fn print(text: &[u8]) {
     io::write_all(STDOUT_FILENO, text);
 }
 
-fn print_number(n: u64) {
+// A name, a number and the end of the line.
+fn print_number(name: &[u8], n: u64) {
+    print(name);
+    print(b" ");
     io::print_decimal(STDOUT_FILENO, n);
+    print(b"\n");
 }
 
 fn print_list(name: &[u8], list: &[u64]) {
@@ -30,124 +25,101 @@ fn print_list(name: &[u8], list: &[u64]) {
     let mut i = 0;
     while i < list.len() {
         print(b" ");
-        print_number(list[i]);
+        io::print_decimal(STDOUT_FILENO, list[i]);
         i += 1;
     }
     print(b"\n");
 }
 
-fn show_below(list: &[u64], words: &mut Words, m: u64)
-    requires { ⌜ 0 < m ⌝ }
-{
-    print(b"a value below ");
-    print_number(m);
-    match below::draw_below(list, words, m) {
-        Below::Value(v) => {
-            print(b": ");
-            print_number(v);
-            print(b"\n");
+fn show_sample(stakes: &[u64], list: &[u64]) {
+    print(b"\none validator by stake\n");
+    let sampler = StakeWeightedSampler::new();
+    match sampler.sample(stakes, list, 0) {
+        SampleAnswer::Accepted(sample) => {
+            let id = sample.id;
+            print_number(b"validator:", id.inner());
+            print_number(b"words read:", sample.words_read as u64);
         }
-        Below::NoWord => {
-            print(b": no word left\n");
+        SampleAnswer::Refused(number) => {
+            print_number(b"refused:", number);
         }
     }
 }
 
-fn show_fraction(list: &[u64], words: &mut Words) {
-    match fraction::draw_fraction(list, words) {
-        Fraction::Value(x) => {
-            if x < 0.5 {
-                print(b"a fraction: below one half\n");
-            } else {
-                print(b"a fraction: at least one half\n");
-            }
+fn show_iid(stakes: &[u64], list: &[u64]) {
+    print(b"\na committee of 8, each seat by stake\n");
+    let sampler = IidQuorumSampler::new(StakeWeightedSampler::new(), 8);
+    let mut seats = [0u64; 8];
+    match sampler.sample_quorum(stakes, list, 0, &mut seats) {
+        QuorumAnswer::Accepted(quorum) => {
+            print_list(b"seats:", &seats);
+            print_number(b"words read:", quorum.words_read as u64);
         }
-        Fraction::NoWord => {
-            print(b"a fraction: no word left\n");
-        }
-    }
-}
-
-fn print_seat(place: Place) {
-    print(b"a seat: validator ");
-    print_number(place.at as u64);
-    print(b", ");
-    print_number(place.remainder);
-    print(b" into its stake\n");
-}
-
-// k seats by stake, from the running sums of the stakes.
-fn show_seats(list: &[u64], words: &mut Words, stakes: &[u64], sums: &[u64], k: usize)
-    requires { ⌜ now sums ≡ runningSums (now stakes) ⌝ }
-    requires { ⌜ 0 < total (now stakes) ⌝ }
-{
-    let mut i = 0;
-    while i < k {
-        match weighted::draw_weighted(list, words, stakes, sums) {
-            Weighted::At(place) => {
-                print_seat(place);
-            }
-            Weighted::NoWord => {
-                print(b"a seat: no word left\n");
-            }
-        }
-        i += 1;
-    }
-}
-
-// A committee of three, from at most 8 stakes.
-fn show_committee(list: &[u64], words: &mut Words, stakes: &[u64])
-    requires { ⌜ length (now stakes) ≤ 8 ⌝ }
-{
-    let n = stakes.len();
-    match Stake::sum(stakes) {
-        CheckedStake::Some(sum) => {
-            if 0 < sum.inner() {
-                let mut sums = [0u64; 8];
-                weighted::running_sums(stakes, &mut sums);
-                show_seats(list, words, stakes, &sums[..n], 3);
-            }
-        }
-        CheckedStake::None => {
-            print(b"the stakes do not fit 64 bits\n");
+        QuorumAnswer::Refused(number) => {
+            print_number(b"refused:", number);
         }
     }
 }
 
-fn show_order(list: &[u64], words: &mut Words) {
-    let mut order = [0u64, 1, 2, 3, 4];
-    match shuffle::shuffle_list(list, words, &mut order) {
-        Shuffled::Done => {
-            print_list(b"an order:", &order);
+fn show_decaying(stakes: &[u64], list: &[u64]) {
+    print(b"\na committee of 8, no validator more than three times\n");
+    let sampler = DecayingAcceptanceSampler::new(3.0, MAX_TRIES_PER_SAMPLE, 8);
+    let mut counts = [0u32; 5];
+    let mut seats = [0u64; 8];
+    match sampler.sample_quorum(stakes, &mut counts, list, 0, &mut seats) {
+        DecayingAnswer::Accepted(quorum) => {
+            print_list(b"seats:", &seats);
+            print_number(b"tries:", quorum.tries as u64);
+            print_number(b"words read:", quorum.words_read as u64);
         }
-        Shuffled::NoWord => {
-            print(b"an order: no word left\n");
+        DecayingAnswer::Refused(number) => {
+            print_number(b"refused:", number);
         }
     }
+}
+
+// Thirty words.
+fn words() -> [u64; 30] {
+    [
+        17485029721327973432u64,
+        12007621696699967246,
+        691672907343361484,
+        7713914763314685786,
+        17482144350526720241,
+        10801332806156616911,
+        18008728104892228252,
+        5342348423785332397,
+        9973894190648387236,
+        12580729232405932079,
+        3465608723044488519,
+        10410757471710933047,
+        3799267732704684465,
+        9808507260218814804,
+        5794992457191552792,
+        17034486841352872401,
+        5529725096132913496,
+        4502785970640448032,
+        16143437395134509574,
+        8279529517580348704,
+        18081034654816976124,
+        9443493973184843536,
+        13966785042261406932,
+        17215796697752958293,
+        15095954672103411799,
+        12825935695043510850,
+        8415503028500634845,
+        1199037988655718682,
+        12940243841829388815,
+        15161836149580074803,
+    ]
 }
 
 fn main() {
     let stakes = [500u64, 0, 300, 150, 50];
-    let list = [
-        18446744073709551610u64,
-        13,
-        9223372036854775808,
-        4611686018427387904,
-        779,
-        11400714819323198485,
-        6148914691236517204,
-        3074457345618258602,
-        1,
-        12297829382473034412,
-    ];
     print_list(b"stakes:", &stakes);
-    print_list(b"words:", &list);
-    let mut words = words::listed(&list, 0);
-    show_below(&list, &mut words, 10);
-    show_fraction(&list, &mut words);
-    show_committee(&list, &mut words, &stakes);
-    show_order(&list, &mut words);
-    print(b"words left: ");
-    print_number(words::words_left(&list, &words) as u64);
-    print(b"\n");
+    let list = words();
+    print_number(b"words:", list.len() as u64);
+    show_sample(&stakes, &list);
+    show_iid(&stakes, &list);
+    show_decaying(&stakes, &list);
 }

@@ -1,12 +1,12 @@
 -- `sample::print_list` is safe and ends.
-use Prim.Native.Nat.{_-_, _≤_}
+use Prim.Native.Nat.{_-_}
 use lib.ListN.{length}
 use borrow.Author.Needs.{needs}
 use Rattle.sample.proofs.print_list.Statement.{statement}
 use Rattle.sample.proofs.print_list.Tie as tie
 
 abbrev Inv-loop : tie.InvT-loop
-Inv-loop name list i₀ t4 t5 i = i ≤ length list
+Inv-loop name list i₀ t4 t5 i = Unit {0}
 
 abbrev μ-loop : tie.MeasureT-loop
 μ-loop name list i₀ t4 t5 i = length list - i
@@ -23,14 +23,14 @@ slice-aggregate-print c = search needs
 print-requires-2 : tie.Need-print-requires-2 Inv-loop μ-loop
 print-requires-2 c κs = search needs
 
-mul-print-number : tie.Need-mul-print-number Inv-loop μ-loop
-mul-print-number c = search needs
+mul-print-decimal : tie.Need-mul-print-decimal Inv-loop μ-loop
+mul-print-decimal c = search needs
 
-shared-slice-read-print-number : tie.Need-shared-slice-read-print-number Inv-loop μ-loop
-shared-slice-read-print-number c = search needs
+shared-slice-read-print-decimal : tie.Need-shared-slice-read-print-decimal Inv-loop μ-loop
+shared-slice-read-print-decimal c = search needs
 
-print-number-requires : tie.Need-print-number-requires Inv-loop μ-loop
-print-number-requires c κs = search needs
+print-decimal-requires : tie.Need-print-decimal-requires Inv-loop μ-loop
+print-decimal-requires c κs = search needs
 
 add-i : tie.Need-add-i Inv-loop μ-loop
 add-i c = search needs
@@ -60,9 +60,9 @@ print-list-spec =
     loop-holds
     slice-aggregate-print
     print-requires-2
-    mul-print-number
-    shared-slice-read-print-number
-    print-number-requires
+    mul-print-decimal
+    shared-slice-read-print-decimal
+    print-decimal-requires
     add-i
     loop-less
     loop-again
