@@ -1,5 +1,6 @@
 #!/usr/bin/env python3
-"""`compare.py ORACLE N`: the model and the oracle's binary over about N cases.
+"""`compare.py ORACLE N`: the model and the oracle's binary over about N cases and
+the stored cases of the samplers.
 
 A difference is explained if the condition of a known kind holds of the case and
 the oracle's answer is the one that the known kinds, taken together, lead to.
@@ -20,6 +21,7 @@ from unittest.mock import patch
 import model
 from cases import cases
 from model import MAX_COUNT, MAX_FANOUT, MAX_LIST, MAX_SEATS, MAX_TRIES, WORD_END, Words
+from store import compared_lines
 
 ALL_KINDS_FROM = 20_000
 DIFFERENCES = Path(__file__).resolve().parents[2] / "docs" / "DIFFERENCES.md"
@@ -312,7 +314,7 @@ def without_entry():
 
 def main():
     oracle, n = sys.argv[1], int(sys.argv[2])
-    lines = cases(n)
+    lines = cases(n) + compared_lines()
     counts = compare(lines, oracle_answers(oracle, lines))
     by_outcome = Counter()
     for (_, outcome), times in counts.items():

@@ -217,6 +217,39 @@ def lists():
     return texts
 
 
+# The fields of the samplers' operations, in the order of FORMAT.md.
+COMPARED_FIELDS = {
+    "iid": ("stakes", "k", "words"),
+    "decaying": ("stakes", "k", "max_samples", "allowed", "counts", "words"),
+    "decaying_one": ("stakes", "max_samples", "allowed", "counts", "words"),
+}
+
+
+def as_compared(operation, given):
+    """A stored case as the oracle takes it: the words from the cursor on, and the list's counts."""
+    fields = {"k": 1, **given, "words": given["words"][given["cursor"]:]}
+    if "counts" in given:
+        fields["counts"] = given["counts"][:len(given["stakes"])]
+    return model.write_fields(operation, {name: fields[name] for name in COMPARED_FIELDS[operation]})
+
+
+def is_short(given):
+    """Whether a lent buffer is shorter than needed. In the Rust none is lent."""
+    few_counts = len(given.get("counts", given["stakes"])) < len(given["stakes"])
+    return few_counts or given.get("room", 0) < given.get("k", 0)
+
+
+def compared_lines():
+    """The stored cases of the samplers, but for those with a short buffer."""
+    lines = []
+    for program in LIMITS:
+        for line in (CRATES / program / "stdin").read_text().splitlines():
+            function, stored = read_line(line)
+            if function != "reset" and not is_short(stored.given):
+                lines.append(as_compared(PROGRAMS[program][function], stored.given))
+    return lines
+
+
 def main():
     texts = lists()
     if sys.argv[1:] != ["--check"]:

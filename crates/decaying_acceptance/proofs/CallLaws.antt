@@ -20,7 +20,7 @@ use Rattle.decaying_acceptance.specs.declared.tries.Seat.{Seat}
 use Rattle.decaying_acceptance.specs.declared.answers.SampleAnswer.the-variants as one
 use Rattle.decaying_acceptance.specs.declared.answers.QuorumAnswer.{QuorumAnswer}
 use Rattle.decaying_acceptance.specs.declared.answers.QuorumAnswer.the-variants as many
-use Rattle.decaying_acceptance.specs.Seats.{seat, raised, Committee, committee, ids}
+use Rattle.decaying_acceptance.specs.Seats.{seat, raised, Committee, committee, seatIds}
 use Rattle.decaying_acceptance.specs.Calls.{oneChecks, quorumChecks}
 use Rattle.decaying_acceptance.specs.Calls as calls
 use Rattle.decaying_acceptance.specs.Answers.{sampleAnswer, countsAfter, quorumAnswer, zeros, Seated, seated}
@@ -101,7 +101,7 @@ one-turned-down allowed stakes counts max ws n e = turned-down (lowest (oneCheck
 -- the answer of `sample_quorum`, its seats and counts, by what drawing k seats gave
 pub record Quorum (k allowed : ℕ) (stakes stored : List ℕ) (max : Float) (ws : List ℕ) (answer : QuorumAnswer) (held heldAfter counts countsAfter : List ℕ) : Type 0 where
   pub answers : answer ≡ quorumAnswer ws (committee k allowed stakes stored max ws)
-  pub seats : heldAfter ≡ bufferAfter (committee k allowed stakes stored max ws) ids held
+  pub seats : heldAfter ≡ bufferAfter (committee k allowed stakes stored max ws) seatIds held
   pub counts-left : countsAfter ≡ bufferAfter (committee k allowed stakes stored max ws) (zeros stakes) counts
 
 pub quorum-accepted : (k allowed : ℕ) (stakes stored : List ℕ) (max : Float) (ws s t seats : List ℕ) (tries before after : ℕ) (held counts : List ℕ) →
@@ -116,8 +116,8 @@ quorum-accepted k allowed stakes stored max ws s t seats tries before after held
     go (refused n) q e = absurd (let z : _≡_ {A = ℕ} 0 1 = cc in omega arith)
     go (accepted c left) q e =
         let l : t ≡ left = cc in
-        let x : _≡_ {A = Seated} (record { seats = seats; tries = tries }) (record { seats = ids c; tries = c .tries }) = cc in
-        let y : seats ≡ ids c = ap (λ (z : Seated). z .seats) x in
+        let x : _≡_ {A = Seated} (record { seats = seats; tries = tries }) (record { seats = seatIds c; tries = c .tries }) = cc in
+        let y : seats ≡ seatIds c = ap (λ (z : Seated). z .seats) x in
         let v : tries ≡ c .tries = ap (λ (z : Seated). z .tries) x in
         record { answers = rw (q, l, v); seats = rw (q, y); counts-left = rw (q, length-replicate {A = ℕ} (length stakes) 0) }
 

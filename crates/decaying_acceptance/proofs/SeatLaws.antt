@@ -14,7 +14,7 @@ use borrow.Author.Tests.{eqb-true, eqb-false}
 use Rattle.words.specs.Outcome.{Outcome, refused, accepted, next}
 use Rattle.words.proofs.Outcomes.{NoLonger, accepted-no-longer, next-no-longer}
 use Rattle.decaying_acceptance.specs.declared.tries.Seat.{Seat}
-use Rattle.decaying_acceptance.specs.Seats.{seat, raised, Committee, committee, ids}
+use Rattle.decaying_acceptance.specs.Seats.{seat, raised, Committee, committee, seatIds}
 use Rattle.decaying_acceptance.specs.Answers.{Seated, seated}
 use Rattle.decaying_acceptance.proofs.TryLaws.{seat-no-longer}
 
@@ -37,7 +37,7 @@ module _ (allowed : ℕ) (stakes : List ℕ) (max : Float) where
 
   pub seated-no-longer : (k : ℕ) (counts ws : List ℕ) → NoLonger ws (seated (committee k allowed stakes counts max ws))
   seated-no-longer k counts ws =
-      next-no-longer (committee-no-longer k counts ws) (λ c left. accepted-no-longer (record { seats = ids c; tries = c .tries }) left (omega arith))
+      next-no-longer (committee-no-longer k counts ws) (λ c left. accepted-no-longer (record { seats = seatIds c; tries = c .tries }) left (omega arith))
 
   -- one seat, then the others
   step : (done : List ℕ) (made m : ℕ) (counts ws : List ℕ) (s : Seat) (left : List ℕ) → seat allowed 0 stakes counts max ws ≡ accepted s left →
@@ -49,7 +49,7 @@ module _ (allowed : ℕ) (stakes : List ℕ) (max : Float) where
           after done made (seated (next o (λ c rest. accepted (record { places = s .place ∷ c .places; tries = s .tries + c .tries }) rest)))
           ≡ after (done ++ (s .place .at ∷ [])) (made + s .tries) (seated o)
       go (refused n) = refl
-      go (accepted c rest) = rw (append-snoc done (s .place .at) (ids c), add-assoc made (s .tries) (c .tries))
+      go (accepted c rest) = rw (append-snoc done (s .place .at) (seatIds c), add-assoc made (s .tries) (c .tries))
 
   stop : (done : List ℕ) (made m : ℕ) (counts ws : List ℕ) (n : ℕ) → seat allowed 0 stakes counts max ws ≡ refused n →
       after done made (seated (committee (suc m) allowed stakes counts max ws)) ≡ refused n

@@ -16,7 +16,7 @@ use Rattle.decaying_acceptance.specs.declared.answers.SampleAnswer.{Samp
 use Rattle.decaying_acceptance.specs.declared.answers.SampleAnswer.the-variants as sample
 use Rattle.decaying_acceptance.specs.declared.answers.QuorumAnswer.{QuorumAnswer}
 use Rattle.decaying_acceptance.specs.declared.answers.QuorumAnswer.the-variants as quorum
-use Rattle.decaying_acceptance.specs.Seats.{Committee, raised, ids}
+use Rattle.decaying_acceptance.specs.Seats.{Committee, raised, seatIds}
 
 -- of `sample_one`: the validator, the tries made and the words read
 abbrev pub sampleAnswer : List ℕ → Outcome Seat → SampleAnswer
@@ -48,13 +48,13 @@ abbrev pub seatSays : DrawnSeat → List ℕ → Outcome Seat
 seatSays (drawnSeat.Drawn s) left = accepted s left
 seatSays (drawnSeat.Refused n) left = refused n
 
--- the ids of a committee's seats, and the tries
+-- the seatIds of a committee's seats, and the tries
 pub record Seated : Type 0 where
   pub seats : List ℕ
   pub tries : ℕ
 
 abbrev pub seated : Outcome Committee → Outcome Seated
-seated o = next o (λ c left. accepted (record { seats = ids c; tries = c .tries }) left)
+seated o = next o (λ c left. accepted (record { seats = seatIds c; tries = c .tries }) left)
 
 -- of `draw_seats`, with what the buffer then holds and the words that are left
 abbrev pub seatsSays : DrawnSeats → List ℕ → List ℕ → Outcome Seated

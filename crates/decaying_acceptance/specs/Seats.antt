@@ -1,14 +1,14 @@
 -- "Decaying".
 use Prim.Native.Nat.{ℕ, zero, suc, _+_}
 use mathlib.Core.Bool.{Bool, cond}
-use mathlib.Core.List.{List, [], _∷_, map}
+use mathlib.Core.List.{List, [], _∷_}
 use lib.IntN.{pos}
 use lib.ListN.{getD, set}
 use lib.Ieee.{Float, binary64, ofInt, div, le}
 use Rattle.refusals.specs.Refusals.{lastTryRejected}
 use Rattle.words.specs.Outcome.{Outcome, refused, accepted, next}
 use Rattle.draws.specs.declared.weighted.Place.{Place}
-use Rattle.draws.specs.Weighted.{weighted}
+use Rattle.draws.specs.Weighted.{weighted, ids}
 use Rattle.draws.specs.Fraction.{fraction}
 use Rattle.decaying_acceptance.specs.declared.tries.Try.{Try}
 use Rattle.decaying_acceptance.specs.declared.tries.Seat.{Seat}
@@ -48,6 +48,6 @@ committee (suc k) allowed stakes counts max ws =
     next (committee k allowed stakes (raised counts (s .place .at)) max left) (λ c rest.
     accepted (record { places = s .place ∷ c .places; tries = s .tries + c .tries }) rest))
 
--- "A validator's id is its position in the list"
-abbrev pub ids : Committee → List ℕ
-ids c = map (λ p. p .at) (c .places)
+-- the ids of its seats
+abbrev pub seatIds : Committee → List ℕ
+seatIds c = ids (c .places)

@@ -3,12 +3,12 @@
 // The stakes are an epoch's list, the words of chance a list that is read from a cursor on. How often each validator was sampled
 // before stands in a list of counts that the caller lends. A call checks its input, then draws, and only then writes to what it
 // was lent.
-pub mod answers;
-pub mod checks;
-pub mod one;
-pub mod quorum;
-pub mod sampler;
-pub mod tries;
+mod answers;
+mod checks;
+mod one;
+mod quorum;
+mod sampler;
+mod tries;
 
 pub use answers::Quorum;
 pub use answers::QuorumAnswer;

@@ -14,7 +14,7 @@ ghost use Rattle.refusals.specs.declared.Refusal.the-variants.{None};
 ghost use Rattle.refusals.specs.Refusals.{lowest, countLimit};
 ghost use Rattle.words.specs.Outcome.{bufferAfter};
 ghost use Rattle.words.specs.Stream.{stream};
-ghost use Rattle.decaying_acceptance.specs.Seats.{committee, ids};
+ghost use Rattle.decaying_acceptance.specs.Seats.{committee, seatIds};
 ghost use Rattle.decaying_acceptance.specs.Calls.{quorumChecks};
 ghost use Rattle.decaying_acceptance.specs.Answers.{seatsSays, seated, quorumAnswer, zeros};
 
@@ -105,7 +105,7 @@ fn fill_quorum(
     requires { ⌜ length (now drawn) ≤ 1024 ⌝ }
     requires { ⌜ length (now drawn) ≤ length (now seats) ⌝ }
     ensures { λ r. ⌜ r ≡ quorumAnswer (drop cursor (now (list .entry))) (committee (length (now (drawn .entry))) «tries_allowed» (now (stakes .entry)) (take (length (now (stakes .entry))) (now (counts .entry))) «max_samples» (drop cursor (now (list .entry)))) ⌝ }
-    ensures { λ r. ⌜ now (seats .exit) ≡ bufferAfter (committee (length (now (drawn .entry))) «tries_allowed» (now (stakes .entry)) (take (length (now (stakes .entry))) (now (counts .entry))) «max_samples» (drop cursor (now (list .entry)))) ids (now (seats .entry)) ⌝ }
+    ensures { λ r. ⌜ now (seats .exit) ≡ bufferAfter (committee (length (now (drawn .entry))) «tries_allowed» (now (stakes .entry)) (take (length (now (stakes .entry))) (now (counts .entry))) «max_samples» (drop cursor (now (list .entry)))) seatIds (now (seats .entry)) ⌝ }
     ensures { λ r. ⌜ now (counts .exit) ≡ bufferAfter (committee (length (now (drawn .entry))) «tries_allowed» (now (stakes .entry)) (take (length (now (stakes .entry))) (now (counts .entry))) «max_samples» (drop cursor (now (list .entry)))) (zeros (now (stakes .entry))) (now (counts .entry)) ⌝ }
 {
     let n = stakes.len();
@@ -147,7 +147,7 @@ pub fn draw_quorum(
 ) -> QuorumAnswer
     requires { ⌜ lowest (quorumChecks k (length (now seats)) «tries_allowed» (now stakes) (now counts) «max_samples») ≡ None ⌝ }
     ensures { λ r. ⌜ r ≡ quorumAnswer (drop cursor (now (list .entry))) (committee k «tries_allowed» (now (stakes .entry)) (take (length (now (stakes .entry))) (now (counts .entry))) «max_samples» (drop cursor (now (list .entry)))) ⌝ }
-    ensures { λ r. ⌜ now (seats .exit) ≡ bufferAfter (committee k «tries_allowed» (now (stakes .entry)) (take (length (now (stakes .entry))) (now (counts .entry))) «max_samples» (drop cursor (now (list .entry)))) ids (now (seats .entry)) ⌝ }
+    ensures { λ r. ⌜ now (seats .exit) ≡ bufferAfter (committee k «tries_allowed» (now (stakes .entry)) (take (length (now (stakes .entry))) (now (counts .entry))) «max_samples» (drop cursor (now (list .entry)))) seatIds (now (seats .entry)) ⌝ }
     ensures { λ r. ⌜ now (counts .exit) ≡ bufferAfter (committee k «tries_allowed» (now (stakes .entry)) (take (length (now (stakes .entry))) (now (counts .entry))) «max_samples» (drop cursor (now (list .entry)))) (zeros (now (stakes .entry))) (now (counts .entry)) ⌝ }
 {
     let n = stakes.len();

@@ -9,7 +9,7 @@ use refusals::Refusal;
 ghost use mathlib.Core.Path.{_≡_};
 ghost use lib.ListN.{length, drop, replicate};
 ghost use Rattle.words.specs.Outcome.{bufferAfter};
-ghost use Rattle.decaying_acceptance.specs.Seats.{ids};
+ghost use Rattle.decaying_acceptance.specs.Seats.{seatIds};
 ghost use Rattle.decaying_acceptance.specs.Calls.{one, quorum};
 ghost use Rattle.decaying_acceptance.specs.Answers.{sampleAnswer, countsAfter, quorumAnswer, zeros};
 
@@ -84,7 +84,7 @@ impl DecayingAcceptanceSampler {
         seats: &mut [u64],
     ) -> QuorumAnswer
         ensures { λ r. ⌜ r ≡ quorumAnswer (drop cursor (now (list .entry))) (quorum (self .k) (length (now (seats .entry))) (self .«tries_allowed») (now (stakes .entry)) (now (counts .entry)) (self .«max_samples») (drop cursor (now (list .entry)))) ⌝ }
-        ensures { λ r. ⌜ now (seats .exit) ≡ bufferAfter (quorum (self .k) (length (now (seats .entry))) (self .«tries_allowed») (now (stakes .entry)) (now (counts .entry)) (self .«max_samples») (drop cursor (now (list .entry)))) ids (now (seats .entry)) ⌝ }
+        ensures { λ r. ⌜ now (seats .exit) ≡ bufferAfter (quorum (self .k) (length (now (seats .entry))) (self .«tries_allowed») (now (stakes .entry)) (now (counts .entry)) (self .«max_samples») (drop cursor (now (list .entry)))) seatIds (now (seats .entry)) ⌝ }
         ensures { λ r. ⌜ now (counts .exit) ≡ bufferAfter (quorum (self .k) (length (now (seats .entry))) (self .«tries_allowed») (now (stakes .entry)) (now (counts .entry)) (self .«max_samples») (drop cursor (now (list .entry)))) (zeros (now (stakes .entry))) (now (counts .entry)) ⌝ }
     {
         match refusal(

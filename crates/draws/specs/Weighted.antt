@@ -1,7 +1,7 @@
 -- "Weighted draw".
 use Prim.Native.Nat.{ℕ, suc, _+_, _-_, _≤_, _<_}
 use mathlib.Core.Bool.{Bool, cond}
-use mathlib.Core.List.{List, [], _∷_}
+use mathlib.Core.List.{List, [], _∷_, map}
 use lib.Dec.{ltb}
 use lib.ListN.{length, getD, take}
 use Rattle.laws.specs.Sums.{total, runningSums}
@@ -29,6 +29,10 @@ placeOf weights v = record { at = chosen weights v; remainder = remainder weight
 -- "a draw v below the sum", and its place
 abbrev pub weighted : List ℕ → List ℕ → Outcome Place
 weighted weights ws = next (below (total weights) ws) (λ v left. accepted (placeOf weights v) left)
+
+-- "A validator's id is its position in the list": the ids at places of a list of stakes
+abbrev pub ids : List Place → List ℕ
+ids places = map (λ p. p .at) places
 
 -- p is a place of the weights, and its remainder is below the weight there: so that weight is above 0
 pub record Placed (weights : List ℕ) (p : Place) : Type 0 where

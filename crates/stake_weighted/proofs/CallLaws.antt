@@ -12,10 +12,10 @@ use Rattle.types.specs.declared.validator_index.ValidatorIndex.{ValidatorIndex}
 use Rattle.words.specs.Outcome.{Outcome, refused, accepted, next, bufferAfter}
 use Rattle.words.proofs.Outcomes.{goes-on, turned-down}
 use Rattle.draws.specs.declared.weighted.Place.{Place}
-use Rattle.draws.specs.Weighted.{weighted}
+use Rattle.draws.specs.Weighted.{weighted, ids}
 use Rattle.stake_weighted.specs.declared.SampleAnswer.the-variants as one
 use Rattle.stake_weighted.specs.declared.QuorumAnswer.the-variants as quorum
-use Rattle.stake_weighted.specs.Seats.{iid, ids, iidSeats}
+use Rattle.stake_weighted.specs.Seats.{iid, iidSeats}
 use Rattle.stake_weighted.specs.Calls.{sampleChecks, sample, quorumChecks}
 use Rattle.stake_weighted.specs.Answers.{sampleAnswer, quorumAnswer}
 

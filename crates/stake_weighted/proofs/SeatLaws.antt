@@ -10,9 +10,9 @@ use Rattle.refusals.specs.Refusals.{noWordLeft}
 use Rattle.words.specs.Outcome.{Outcome, refused, accepted, next}
 use Rattle.words.proofs.Outcomes.{NoLonger, accepted-no-longer, next-no-longer}
 use Rattle.draws.specs.declared.weighted.Place.{Place}
-use Rattle.draws.specs.Weighted.{weighted}
+use Rattle.draws.specs.Weighted.{weighted, ids}
 use Rattle.draws.proofs.WeightedLaws.{weighted-no-longer}
-use Rattle.stake_weighted.specs.Seats.{iid, ids, iidSeats}
+use Rattle.stake_weighted.specs.Seats.{iid, iidSeats}
 
 -- what is drawn stands after seats that were drawn before
 abbrev pub after : List ℕ → Outcome (List ℕ) → Outcome (List ℕ)

@@ -1,19 +1,15 @@
 -- "IID".
 use Prim.Native.Nat.{ℕ, zero, suc}
-use mathlib.Core.List.{List, [], _∷_, map}
+use mathlib.Core.List.{List, [], _∷_}
 use Rattle.words.specs.Outcome.{Outcome, accepted, next}
 use Rattle.draws.specs.declared.weighted.Place.{Place}
-use Rattle.draws.specs.Weighted.{weighted}
+use Rattle.draws.specs.Weighted.{weighted, ids}
 
 -- "k weighted draws"
 abbrev pub iid : ℕ → List ℕ → List ℕ → Outcome (List Place)
 iid zero weights ws = accepted [] ws
 iid (suc k) weights ws =
     next (weighted weights ws) (λ p left. next (iid k weights left) (λ ps rest. accepted (p ∷ ps) rest))
-
--- "A validator's id is its position in the list"
-abbrev pub ids : List Place → List ℕ
-ids places = map (λ p. p .at) places
 
 -- the ids of k weighted draws
 abbrev pub iidSeats : ℕ → List ℕ → List ℕ → Outcome (List ℕ)

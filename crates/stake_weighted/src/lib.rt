@@ -15,8 +15,8 @@ ghost use Rattle.refusals.specs.declared.Refusal.the-variants.{None};
 ghost use Rattle.refusals.specs.Refusals.{lowest};
 ghost use Rattle.words.specs.Outcome.{bufferAfter};
 ghost use Rattle.words.specs.Stream.{stream};
-ghost use Rattle.draws.specs.Weighted.{weighted};
-ghost use Rattle.stake_weighted.specs.Seats.{iid, ids, iidSeats};
+ghost use Rattle.draws.specs.Weighted.{weighted, ids};
+ghost use Rattle.stake_weighted.specs.Seats.{iid, iidSeats};
 ghost use Rattle.stake_weighted.specs.Calls.{quorumChecks, sample, quorum};
 ghost use Rattle.stake_weighted.specs.Answers.{sampleAnswer, quorumAnswer, seatsSays};
 
@@ -57,7 +57,9 @@ pub enum Seats {
 }
 
 impl StakeWeightedSampler {
-    pub fn new() -> Self {
+    pub fn new() -> Self
+        ensures { λ r. ⌜ r ≡ record {} ⌝ }
+    {
         Self {}
     }
 
@@ -74,7 +76,7 @@ impl StakeWeightedSampler {
 
 impl IidQuorumSampler {
     pub fn new(inner: StakeWeightedSampler, k: usize) -> Self
-        ensures { λ r. ⌜ r .k ≡ k ⌝ }
+        ensures { λ r. ⌜ r ≡ record { inner = inner; k = k } ⌝ }
     {
         Self { inner, k }
     }

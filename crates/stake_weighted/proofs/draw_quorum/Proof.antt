@@ -8,7 +8,8 @@ use lib.ListN.{length, take, drop, replicate}
 use lib.Seq.{length-take-le}
 use Rattle.words.specs.Outcome.{bufferAfter}
 use Rattle.draws.proofs.WeightedLaws.{Front, front}
-use Rattle.stake_weighted.specs.Seats.{iid, ids}
+use Rattle.draws.specs.Weighted.{ids}
+use Rattle.stake_weighted.specs.Seats.{iid}
 use Rattle.stake_weighted.specs.Answers.{quorumAnswer}
 use Rattle.stake_weighted.proofs.CallLaws.{Admitted, admitted}
 use borrow.Author.Needs.{needs}

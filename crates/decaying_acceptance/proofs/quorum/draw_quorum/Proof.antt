@@ -10,7 +10,7 @@ use lib.Seq.{length-take-le}
 use Rattle.refusals.specs.Refusals.{countLimit}
 use Rattle.words.specs.Outcome.{Outcome, bufferAfter}
 use Rattle.draws.proofs.WeightedLaws.{Front, front}
-use Rattle.decaying_acceptance.specs.Seats.{Committee, committee, ids}
+use Rattle.decaying_acceptance.specs.Seats.{Committee, committee, seatIds}
 use Rattle.decaying_acceptance.specs.Answers.{quorumAnswer, zeros}
 use Rattle.decaying_acceptance.proofs.CallLaws.{Admitted, admitted}
 use borrow.Author.Needs.{needs}
@@ -82,7 +82,7 @@ returns c =
     let d = drawn-long s in (
       f .fill-quorum .ensures .0 ∙ ap (λ (k : ℕ). quorumAnswer ws (whole k)) d,
       (
-        f .fill-quorum .ensures .1 .0 ∙ ap (λ (k : ℕ). bufferAfter (whole k) ids (now (s .args .seats))) d,
+        f .fill-quorum .ensures .1 .0 ∙ ap (λ (k : ℕ). bufferAfter (whole k) seatIds (now (s .args .seats))) d,
         f .fill-quorum .ensures .1 .1 ∙ ap (λ (k : ℕ). bufferAfter (whole k) (zeros (now (s .args .stakes))) (now (s .args .counts))) d,
       ),
     )

@@ -6,7 +6,8 @@ use lib.ListN.{drop}
 use Rattle.words.specs.Outcome.{Outcome, bufferAfter}
 use Rattle.words.proofs.Outcomes.{goes-on, turned-down}
 use Rattle.draws.specs.declared.weighted.Place.{Place}
-use Rattle.stake_weighted.specs.Seats.{iid, ids}
+use Rattle.draws.specs.Weighted.{ids}
+use Rattle.stake_weighted.specs.Seats.{iid}
 use Rattle.stake_weighted.specs.Answers.{quorumAnswer}
 use borrow.Author.Needs.{needs}
 use Rattle.stake_weighted.proofs.IidQuorumSampler.sample_quorum.Statement.{statement}

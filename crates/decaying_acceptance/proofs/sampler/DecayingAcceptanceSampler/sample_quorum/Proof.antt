@@ -4,7 +4,7 @@ use denote.Ref.{now}
 use lib.ListN.{length, take, drop}
 use Rattle.words.specs.Outcome.{Outcome, bufferAfter}
 use Rattle.words.proofs.Outcomes.{goes-on, turned-down}
-use Rattle.decaying_acceptance.specs.Seats.{Committee, committee, ids}
+use Rattle.decaying_acceptance.specs.Seats.{Committee, committee, seatIds}
 use Rattle.decaying_acceptance.specs.Answers.{quorumAnswer, zeros}
 use borrow.Author.Needs.{needs}
 use Rattle.decaying_acceptance.proofs.sampler.DecayingAcceptanceSampler.sample_quorum.Statement.{
@@ -41,7 +41,7 @@ returns c =
     sym (goes-on _ (committee (a .self .k) (a .self .«tries_allowed») (now (a .stakes)) stored (a .self .«max_samples») ws) (sym (q .refusal .ensures) ∙ d .before .before .before .enum-told .given .1)) in (
       d .draw-quorum .ensures .0 ∙ ap (quorumAnswer ws) e,
       (
-        d .draw-quorum .ensures .1 .0 ∙ ap (λ (o : Outcome Committee). bufferAfter o ids (now (a .seats))) e,
+        d .draw-quorum .ensures .1 .0 ∙ ap (λ (o : Outcome Committee). bufferAfter o seatIds (now (a .seats))) e,
         d .draw-quorum .ensures .1 .1 ∙ ap (λ (o : Outcome Committee). bufferAfter o (zeros (now (a .stakes))) (now (a .counts))) e,
       ),
     )
@@ -59,7 +59,7 @@ returns-2 c =
     let e =
     sym (turned-down _ (committee (a .self .k) (a .self .«tries_allowed») (now (a .stakes)) stored (a .self .«max_samples») ws) (sym (q .refusal .ensures) ∙ n .n .given .1)) in (
       ap (quorumAnswer ws) e,
-      (ap (λ (o : Outcome Committee). bufferAfter o ids (now (a .seats))) e, ap (λ (o : Outcome Committee). bufferAfter o (zeros (now (a .stakes))) (now (a .counts))) e),
+      (ap (λ (o : Outcome Committee). bufferAfter o seatIds (now (a .seats))) e, ap (λ (o : Outcome Committee). bufferAfter o (zeros (now (a .stakes))) (now (a .counts))) e),
     )
 
 pub sample-quorum-spec : {M : Type 1} → statement M
