@@ -39,22 +39,26 @@ pub fn running_sums(weights: &[u64], sums: &mut [u64])
     }
 }
 
-// The smallest place of a rising list whose number exceeds v, or the list's length: by binary search.
+// The smallest place of a rising list whose number exceeds v, or the list's length: by binary search, whose one
+// branch inside the loop only chooses a number.
 pub fn first_above(sums: &[u64], v: u64) -> usize
     requires { ⌜ Rising (now sums) ⌝ }
     ensures { λ r. ⌜ r ≡ firstAbove (now (sums .entry)) v ⌝ }
 {
-    let mut low = 0;
-    let mut high = sums.len();
-    while low < high {
-        let middle = low + (high - low) / 2;
-        if sums[middle] <= v {
-            low = middle + 1;
-        } else {
-            high = middle;
-        }
+    if sums.len() == 0 {
+        return 0;
     }
-    low
+    let mut low = 0;
+    let mut size = sums.len();
+    while 1 < size {
+        let half = size / 2;
+        let middle = low + half;
+        if sums[middle] <= v {
+            low = middle;
+        }
+        size -= half;
+    }
+    if sums[low] <= v { low + 1 } else { low }
 }
 
 // The place that the value v chooses among weights, whose running sums are given.
