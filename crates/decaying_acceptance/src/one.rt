@@ -58,7 +58,36 @@ fn take_one(
     }
 }
 
-// One validator, by a call that is not turned down.
+// One validator, with room for the running sums.
+fn one_in(
+    max_samples: f64,
+    tries_allowed: usize,
+    stakes: &[u64],
+    sums: &mut [u64],
+    counts: &mut [u32],
+    list: &[u64],
+    cursor: usize,
+) -> SampleAnswer
+    requires { ⌜ lowest (quorumChecks 1 1 «tries_allowed» (now stakes) (now counts) «max_samples») ≡ None ⌝ }
+    requires { ⌜ length (now stakes) ≤ length (now sums) ⌝ }
+    ensures { λ r. ⌜ r ≡ sampleAnswer (drop cursor (now (list .entry))) (seat «tries_allowed» 0 (now (stakes .entry)) (now (counts .entry)) «max_samples» (drop cursor (now (list .entry)))) ⌝ }
+    ensures { λ r. ⌜ now (counts .exit) ≡ countsAfter (seat «tries_allowed» 0 (now (stakes .entry)) (now (counts .entry)) «max_samples» (drop cursor (now (list .entry)))) (now (counts .entry)) ⌝ }
+{
+    let n = stakes.len();
+    weighted::running_sums(stakes, sums);
+    take_one(
+        max_samples,
+        tries_allowed,
+        stakes,
+        &sums[..n],
+        counts,
+        list,
+        cursor,
+    )
+}
+
+// One validator, by a call that is not turned down. The room for the running sums goes by the list: zeros that are not needed cost
+// time.
 pub fn draw_one(
     max_samples: f64,
     tries_allowed: usize,
@@ -72,13 +101,48 @@ pub fn draw_one(
     ensures { λ r. ⌜ now (counts .exit) ≡ countsAfter (seat «tries_allowed» 0 (now (stakes .entry)) (now (counts .entry)) «max_samples» (drop cursor (now (list .entry)))) (now (counts .entry)) ⌝ }
 {
     let n = stakes.len();
+    if n <= 64 {
+        let mut sums = [0u64; 64];
+        return one_in(
+            max_samples,
+            tries_allowed,
+            stakes,
+            &mut sums,
+            counts,
+            list,
+            cursor,
+        );
+    }
+    if n <= 512 {
+        let mut sums = [0u64; 512];
+        return one_in(
+            max_samples,
+            tries_allowed,
+            stakes,
+            &mut sums,
+            counts,
+            list,
+            cursor,
+        );
+    }
+    if n <= 2048 {
+        let mut sums = [0u64; 2048];
+        return one_in(
+            max_samples,
+            tries_allowed,
+            stakes,
+            &mut sums,
+            counts,
+            list,
+            cursor,
+        );
+    }
     let mut sums = [0u64; 4096];
-    weighted::running_sums(stakes, &mut sums);
-    take_one(
+    one_in(
         max_samples,
         tries_allowed,
         stakes,
-        &sums[..n],
+        &mut sums,
         counts,
         list,
         cursor,

@@ -134,7 +134,133 @@ fn fill_quorum(
     }
 }
 
-// A committee, by a call that is not turned down.
+// A committee of k, with room for the running sums, the raised counts and the seats while they are drawn.
+fn quorum_in(
+    max_samples: f64,
+    tries_allowed: usize,
+    k: usize,
+    stakes: &[u64],
+    sums: &mut [u64],
+    raised: &mut [u32],
+    drawn: &mut [u64],
+    counts: &mut [u32],
+    list: &[u64],
+    cursor: usize,
+    seats: &mut [u64],
+) -> QuorumAnswer
+    requires { ⌜ lowest (quorumChecks k (length (now seats)) «tries_allowed» (now stakes) (now counts) «max_samples») ≡ None ⌝ }
+    requires { ⌜ length (now stakes) ≤ length (now sums) ⌝ }
+    requires { ⌜ length (now stakes) ≤ length (now raised) ⌝ }
+    requires { ⌜ k ≤ length (now drawn) ⌝ }
+    ensures { λ r. ⌜ r ≡ quorumAnswer (drop cursor (now (list .entry))) (committee k «tries_allowed» (now (stakes .entry)) (take (length (now (stakes .entry))) (now (counts .entry))) «max_samples» (drop cursor (now (list .entry)))) ⌝ }
+    ensures { λ r. ⌜ now (seats .exit) ≡ bufferAfter (committee k «tries_allowed» (now (stakes .entry)) (take (length (now (stakes .entry))) (now (counts .entry))) «max_samples» (drop cursor (now (list .entry)))) seatIds (now (seats .entry)) ⌝ }
+    ensures { λ r. ⌜ now (counts .exit) ≡ bufferAfter (committee k «tries_allowed» (now (stakes .entry)) (take (length (now (stakes .entry))) (now (counts .entry))) «max_samples» (drop cursor (now (list .entry)))) (zeros (now (stakes .entry))) (now (counts .entry)) ⌝ }
+{
+    let n = stakes.len();
+    weighted::running_sums(stakes, sums);
+    fill_quorum(
+        max_samples,
+        tries_allowed,
+        stakes,
+        &sums[..n],
+        &mut raised[..n],
+        &mut drawn[..k],
+        counts,
+        list,
+        cursor,
+        seats,
+    )
+}
+
+// A committee of k, with room for the seats. The room for what is kept for each validator goes by the list: zeros that are not
+// needed cost time.
+fn quorum_with(
+    max_samples: f64,
+    tries_allowed: usize,
+    k: usize,
+    stakes: &[u64],
+    drawn: &mut [u64],
+    counts: &mut [u32],
+    list: &[u64],
+    cursor: usize,
+    seats: &mut [u64],
+) -> QuorumAnswer
+    requires { ⌜ lowest (quorumChecks k (length (now seats)) «tries_allowed» (now stakes) (now counts) «max_samples») ≡ None ⌝ }
+    requires { ⌜ k ≤ length (now drawn) ⌝ }
+    ensures { λ r. ⌜ r ≡ quorumAnswer (drop cursor (now (list .entry))) (committee k «tries_allowed» (now (stakes .entry)) (take (length (now (stakes .entry))) (now (counts .entry))) «max_samples» (drop cursor (now (list .entry)))) ⌝ }
+    ensures { λ r. ⌜ now (seats .exit) ≡ bufferAfter (committee k «tries_allowed» (now (stakes .entry)) (take (length (now (stakes .entry))) (now (counts .entry))) «max_samples» (drop cursor (now (list .entry)))) seatIds (now (seats .entry)) ⌝ }
+    ensures { λ r. ⌜ now (counts .exit) ≡ bufferAfter (committee k «tries_allowed» (now (stakes .entry)) (take (length (now (stakes .entry))) (now (counts .entry))) «max_samples» (drop cursor (now (list .entry)))) (zeros (now (stakes .entry))) (now (counts .entry)) ⌝ }
+{
+    let n = stakes.len();
+    if n <= 64 {
+        let mut sums = [0u64; 64];
+        let mut raised = [0u32; 64];
+        return quorum_in(
+            max_samples,
+            tries_allowed,
+            k,
+            stakes,
+            &mut sums,
+            &mut raised,
+            drawn,
+            counts,
+            list,
+            cursor,
+            seats,
+        );
+    }
+    if n <= 512 {
+        let mut sums = [0u64; 512];
+        let mut raised = [0u32; 512];
+        return quorum_in(
+            max_samples,
+            tries_allowed,
+            k,
+            stakes,
+            &mut sums,
+            &mut raised,
+            drawn,
+            counts,
+            list,
+            cursor,
+            seats,
+        );
+    }
+    if n <= 2048 {
+        let mut sums = [0u64; 2048];
+        let mut raised = [0u32; 2048];
+        return quorum_in(
+            max_samples,
+            tries_allowed,
+            k,
+            stakes,
+            &mut sums,
+            &mut raised,
+            drawn,
+            counts,
+            list,
+            cursor,
+            seats,
+        );
+    }
+    let mut sums = [0u64; 4096];
+    let mut raised = [0u32; 4096];
+    quorum_in(
+        max_samples,
+        tries_allowed,
+        k,
+        stakes,
+        &mut sums,
+        &mut raised,
+        drawn,
+        counts,
+        list,
+        cursor,
+        seats,
+    )
+}
+
+// A committee of k, by a call that is not turned down.
 pub fn draw_quorum(
     max_samples: f64,
     tries_allowed: usize,
@@ -150,18 +276,27 @@ pub fn draw_quorum(
     ensures { λ r. ⌜ now (seats .exit) ≡ bufferAfter (committee k «tries_allowed» (now (stakes .entry)) (take (length (now (stakes .entry))) (now (counts .entry))) «max_samples» (drop cursor (now (list .entry)))) seatIds (now (seats .entry)) ⌝ }
     ensures { λ r. ⌜ now (counts .exit) ≡ bufferAfter (committee k «tries_allowed» (now (stakes .entry)) (take (length (now (stakes .entry))) (now (counts .entry))) «max_samples» (drop cursor (now (list .entry)))) (zeros (now (stakes .entry))) (now (counts .entry)) ⌝ }
 {
-    let n = stakes.len();
-    let mut sums = [0u64; 4096];
-    weighted::running_sums(stakes, &mut sums);
-    let mut raised = [0u32; 4096];
+    if k <= 64 {
+        let mut drawn = [0u64; 64];
+        return quorum_with(
+            max_samples,
+            tries_allowed,
+            k,
+            stakes,
+            &mut drawn,
+            counts,
+            list,
+            cursor,
+            seats,
+        );
+    }
     let mut drawn = [0u64; 1024];
-    fill_quorum(
+    quorum_with(
         max_samples,
         tries_allowed,
+        k,
         stakes,
-        &sums[..n],
-        &mut raised[..n],
-        &mut drawn[..k],
+        &mut drawn,
         counts,
         list,
         cursor,

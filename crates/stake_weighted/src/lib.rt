@@ -63,13 +63,18 @@ impl StakeWeightedSampler {
         Self {}
     }
 
-    // One validator.
+    // One validator: a committee of one.
     pub fn sample(self, stakes: &[u64], list: &[u64], cursor: usize) -> SampleAnswer
         ensures { λ r. ⌜ r ≡ sampleAnswer (drop cursor (now (list .entry))) (sample (now (stakes .entry)) (drop cursor (now (list .entry)))) ⌝ }
     {
-        match quorum_refusal(stakes, 1, 1) {
-            Refusal::None => draw_sample(stakes, list, cursor),
-            Refusal::Number(n) => SampleAnswer::Refused(n),
+        let mut seats = [0u64; 1];
+        let sampler = IidQuorumSampler::new(self, 1);
+        match sampler.sample_quorum(stakes, list, cursor, &mut seats) {
+            QuorumAnswer::Accepted(quorum) => SampleAnswer::Accepted(Sample {
+                id: ValidatorIndex::new(seats[0]),
+                words_read: quorum.words_read,
+            }),
+            QuorumAnswer::Refused(n) => SampleAnswer::Refused(n),
         }
     }
 }
@@ -121,25 +126,6 @@ fn quorum_refusal(stakes: &[u64], k: usize, room: usize) -> Refusal
         return Refusal::Number(refusals::SHORT_BUFFER);
     }
     refusals::bad_sum(stakes)
-}
-
-// One validator, by a call that is not turned down.
-fn draw_sample(stakes: &[u64], list: &[u64], cursor: usize) -> SampleAnswer
-    requires { ⌜ lowest (quorumChecks (now stakes) 1 1) ≡ None ⌝ }
-    ensures { λ r. ⌜ r ≡ sampleAnswer (drop cursor (now (list .entry))) (weighted (now (stakes .entry)) (drop cursor (now (list .entry)))) ⌝ }
-{
-    let n = stakes.len();
-    let mut sums = [0u64; 4096];
-    weighted::running_sums(stakes, &mut sums);
-    let mut words = words::listed(list, cursor);
-    let left = words::words_left(list, &words);
-    match weighted::draw_weighted(list, &mut words, stakes, &sums[..n]) {
-        Weighted::At(place) => SampleAnswer::Accepted(Sample {
-            id: ValidatorIndex::new(place.at as u64),
-            words_read: left - words::words_left(list, &words),
-        }),
-        Weighted::NoWord => SampleAnswer::Refused(refusals::NO_WORD_LEFT),
-    }
 }
 
 // Fills seats by weighted draws from weights, whose running sums are given.
@@ -197,6 +183,58 @@ fn fill_quorum(
     }
 }
 
+// A committee of k, with room for the running sums and for the seats while they are drawn.
+fn quorum_in(
+    stakes: &[u64],
+    k: usize,
+    list: &[u64],
+    cursor: usize,
+    sums: &mut [u64],
+    drawn: &mut [u64],
+    seats: &mut [u64],
+) -> QuorumAnswer
+    requires { ⌜ lowest (quorumChecks (now stakes) k (length (now seats))) ≡ None ⌝ }
+    requires { ⌜ length (now stakes) ≤ length (now sums) ⌝ }
+    requires { ⌜ k ≤ length (now drawn) ⌝ }
+    ensures { λ r. ⌜ r ≡ quorumAnswer (drop cursor (now (list .entry))) (iid k (now (stakes .entry)) (drop cursor (now (list .entry)))) ⌝ }
+    ensures { λ r. ⌜ now (seats .exit) ≡ bufferAfter (iid k (now (stakes .entry)) (drop cursor (now (list .entry)))) ids (now (seats .entry)) ⌝ }
+{
+    let n = stakes.len();
+    weighted::running_sums(stakes, sums);
+    fill_quorum(stakes, &sums[..n], list, cursor, &mut drawn[..k], seats)
+}
+
+// A committee of k, with room for the seats. The room for the running sums goes by the list: zeros that are not needed cost time.
+fn quorum_with(
+    stakes: &[u64],
+    k: usize,
+    list: &[u64],
+    cursor: usize,
+    drawn: &mut [u64],
+    seats: &mut [u64],
+) -> QuorumAnswer
+    requires { ⌜ lowest (quorumChecks (now stakes) k (length (now seats))) ≡ None ⌝ }
+    requires { ⌜ k ≤ length (now drawn) ⌝ }
+    ensures { λ r. ⌜ r ≡ quorumAnswer (drop cursor (now (list .entry))) (iid k (now (stakes .entry)) (drop cursor (now (list .entry)))) ⌝ }
+    ensures { λ r. ⌜ now (seats .exit) ≡ bufferAfter (iid k (now (stakes .entry)) (drop cursor (now (list .entry)))) ids (now (seats .entry)) ⌝ }
+{
+    let n = stakes.len();
+    if n <= 64 {
+        let mut sums = [0u64; 64];
+        return quorum_in(stakes, k, list, cursor, &mut sums, drawn, seats);
+    }
+    if n <= 512 {
+        let mut sums = [0u64; 512];
+        return quorum_in(stakes, k, list, cursor, &mut sums, drawn, seats);
+    }
+    if n <= 2048 {
+        let mut sums = [0u64; 2048];
+        return quorum_in(stakes, k, list, cursor, &mut sums, drawn, seats);
+    }
+    let mut sums = [0u64; 4096];
+    quorum_in(stakes, k, list, cursor, &mut sums, drawn, seats)
+}
+
 // A committee of k, by a call that is not turned down.
 fn draw_quorum(
     stakes: &[u64],
@@ -209,9 +247,10 @@ fn draw_quorum(
     ensures { λ r. ⌜ r ≡ quorumAnswer (drop cursor (now (list .entry))) (iid k (now (stakes .entry)) (drop cursor (now (list .entry)))) ⌝ }
     ensures { λ r. ⌜ now (seats .exit) ≡ bufferAfter (iid k (now (stakes .entry)) (drop cursor (now (list .entry)))) ids (now (seats .entry)) ⌝ }
 {
-    let n = stakes.len();
-    let mut sums = [0u64; 4096];
-    weighted::running_sums(stakes, &mut sums);
+    if k <= 64 {
+        let mut drawn = [0u64; 64];
+        return quorum_with(stakes, k, list, cursor, &mut drawn, seats);
+    }
     let mut drawn = [0u64; 1024];
-    fill_quorum(stakes, &sums[..n], list, cursor, &mut drawn[..k], seats)
+    quorum_with(stakes, k, list, cursor, &mut drawn, seats)
 }

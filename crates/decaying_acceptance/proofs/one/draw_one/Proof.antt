@@ -1,37 +1,15 @@
--- `decaying_acceptance::one::draw_one` meets its contract: the running sums stand at the front of a local array.
+-- `decaying_acceptance::one::draw_one` meets its contract: each room for the running sums has a place for each stake.
 use denote.Ref.{now}
-use Rattle.draws.proofs.WeightedLaws.{Front, front}
-use Rattle.decaying_acceptance.proofs.CallLaws.{Admitted, admitted}
+use Rattle.decaying_acceptance.proofs.CallLaws.{admitted}
 use borrow.Author.Needs.{needs}
 use Rattle.decaying_acceptance.proofs.one.draw_one.Statement.{statement}
 use Rattle.decaying_acceptance.proofs.one.draw_one.Tie as tie
 
-admitted-here : (c : tie.Start) → Admitted 1 1 (c .args .tries-allowed) (now (c .args .stakes)) (now (c .args .counts))
-admitted-here c = admitted 1 1 (c .args .tries-allowed) (now (c .args .stakes)) (now (c .args .counts)) (c .args .max-samples) (c .pre)
+slice-aggregate-one-in : tie.Need-slice-aggregate-one-in
+slice-aggregate-one-in c = search needs
 
-abbrev start-of : tie.After-running-sums → tie.Start
-start-of c = c .before .before .before .before .before
-
-front-here : (c : tie.After-running-sums) → Front (now (start-of c .args .stakes)) (c .running-sums .last .1 .0)
-front-here c = front (now (start-of c .args .stakes)) _ (c .running-sums .last .1 .0) (c .running-sums .ensures)
-
-slice-aggregate-running-sums : tie.Need-slice-aggregate-running-sums
-slice-aggregate-running-sums c = search needs
-
-running-sums-requires : tie.Need-running-sums-requires
-running-sums-requires c κs = let a = admitted-here (c .before .before .before .before) in (a .list .long, a .sum .fits)
-
-array-share-prefix-sums : tie.Need-array-share-prefix-sums
-array-share-prefix-sums c = front-here (c .before) .room
-
-slice-aggregate-take-one : tie.Need-slice-aggregate-take-one
-slice-aggregate-take-one c = front-here (c .before .before) .long
-
-take-one-requires : tie.Need-take-one-requires
-take-one-requires c κs =
-    let r = c .before .before .before in
-    let a = admitted-here (start-of r) in
-    (front-here r .is, (a .sum .above, (a .held, a .limit)))
+one-in-requires : tie.Need-one-in-requires
+one-in-requires c κs = search needs
 
 same-length : tie.Need-same-length
 same-length c = search needs
@@ -39,14 +17,61 @@ same-length c = search needs
 returns : tie.Need-returns
 returns c = search needs
 
+slice-aggregate-one-in-2 : tie.Need-slice-aggregate-one-in-2
+slice-aggregate-one-in-2 c = search needs
+
+one-in-requires-2 : tie.Need-one-in-requires-2
+one-in-requires-2 c κs = search needs
+
+same-length-2 : tie.Need-same-length-2
+same-length-2 c = search needs
+
+returns-2 : tie.Need-returns-2
+returns-2 c = search needs
+
+slice-aggregate-one-in-3 : tie.Need-slice-aggregate-one-in-3
+slice-aggregate-one-in-3 c = search needs
+
+one-in-requires-3 : tie.Need-one-in-requires-3
+one-in-requires-3 c κs = search needs
+
+same-length-3 : tie.Need-same-length-3
+same-length-3 c = search needs
+
+returns-3 : tie.Need-returns-3
+returns-3 c = search needs
+
+slice-aggregate-one-in-4 : tie.Need-slice-aggregate-one-in-4
+slice-aggregate-one-in-4 c = search needs
+
+one-in-requires-4 : tie.Need-one-in-requires-4
+one-in-requires-4 c κs =
+    let s = c .before .before .before .before .before .before .before .before in
+    (s .pre, admitted 1 1 (s .args .tries-allowed) (now (s .args .stakes)) (now (s .args .counts)) (s .args .max-samples) (s .pre) .list .long)
+
+same-length-4 : tie.Need-same-length-4
+same-length-4 c = search needs
+
+returns-4 : tie.Need-returns-4
+returns-4 c = search needs
+
 pub draw-one-spec : {M : Type 1} → statement M
 draw-one-spec =
     tie.close
     (tie.spec
-    slice-aggregate-running-sums
-    running-sums-requires
-    array-share-prefix-sums
-    slice-aggregate-take-one
-    take-one-requires
+    slice-aggregate-one-in
+    one-in-requires
     same-length
-    returns)
+    returns
+    slice-aggregate-one-in-2
+    one-in-requires-2
+    same-length-2
+    returns-2
+    slice-aggregate-one-in-3
+    one-in-requires-3
+    same-length-3
+    returns-3
+    slice-aggregate-one-in-4
+    one-in-requires-4
+    same-length-4
+    returns-4)

@@ -1,70 +1,16 @@
--- `decaying_acceptance::quorum::draw_quorum` meets its contract: the running sums stand at the front of a local array, and others have a place for each count
--- and each seat.
-use Prim.Native.Nat.{ℕ}
-use mathlib.Core.Path.{_≡_, sym, ap, _∙_, subst}
-use mathlib.Core.Bool.{false}
-use native.Mathlib.Omega.{arith}
+-- `decaying_acceptance::quorum::draw_quorum` meets its contract: each room for the seats has a place for each.
 use denote.Ref.{now}
-use lib.ListN.{length, take, drop, replicate}
-use lib.Seq.{length-take-le}
-use Rattle.refusals.specs.Refusals.{countLimit}
-use Rattle.words.specs.Outcome.{Outcome, bufferAfter}
-use Rattle.draws.proofs.WeightedLaws.{Front, front}
-use Rattle.decaying_acceptance.specs.Seats.{Committee, committee, seatIds}
-use Rattle.decaying_acceptance.specs.Answers.{quorumAnswer, zeros}
-use Rattle.decaying_acceptance.proofs.CallLaws.{Admitted, admitted}
+use lib.ListN.{length}
+use Rattle.decaying_acceptance.proofs.CallLaws.{admitted}
 use borrow.Author.Needs.{needs}
 use Rattle.decaying_acceptance.proofs.quorum.draw_quorum.Statement.{statement}
 use Rattle.decaying_acceptance.proofs.quorum.draw_quorum.Tie as tie
 
--- the input, and what the local arrays hold at first
-admitted-here : (c : tie.Start) → Admitted (c .args .k) (length (now (c .args .seats))) (c .args .tries-allowed) (now (c .args .stakes)) (now (c .args .counts))
-admitted-here c = admitted (c .args .k) (length (now (c .args .seats))) (c .args .tries-allowed) (now (c .args .stakes)) (now (c .args .counts)) (c .args .max-samples) (c .pre)
+slice-aggregate-quorum-with : tie.Need-slice-aggregate-quorum-with
+slice-aggregate-quorum-with c = search needs
 
-abbrev start-of : tie.After-running-sums → tie.Start
-start-of c = c .before .before .before .before .before .before
-
-front-here : (c : tie.After-running-sums) → Front (now (start-of c .args .stakes)) (c .running-sums .last .1 .0)
-front-here c = front (now (start-of c .args .stakes)) _ (c .running-sums .last .1 .0) (c .running-sums .ensures)
-
-raised-long : (c : tie.Start) → length (take (length (now (c .args .stakes))) (replicate {A = ℕ} 4096 0)) ≡ length (now (c .args .stakes))
-raised-long c = length-take-le (length (now (c .args .stakes))) (replicate {A = ℕ} 4096 0) (admitted-here c .list .long)
-
-drawn-long : (c : tie.Start) → length (take (c .args .k) (replicate {A = ℕ} 1024 0)) ≡ c .args .k
-drawn-long c = length-take-le (c .args .k) (replicate {A = ℕ} 1024 0) (admitted-here c .size)
-
-slice-aggregate-running-sums : tie.Need-slice-aggregate-running-sums
-slice-aggregate-running-sums c = search needs
-
-running-sums-requires : tie.Need-running-sums-requires
-running-sums-requires c κs = let a = admitted-here (c .before .before .before .before .before) in (a .list .long, a .sum .fits)
-
-array-share-prefix-sums : tie.Need-array-share-prefix-sums
-array-share-prefix-sums c = front-here (c .before) .room
-
-slice-aggregate-fill-quorum : tie.Need-slice-aggregate-fill-quorum
-slice-aggregate-fill-quorum c = front-here (c .before .before) .long
-
-array-borrow-prefix-raised : tie.Need-array-borrow-prefix-raised
-array-borrow-prefix-raised c = admitted-here (start-of (c .before .before)) .list .long
-
-slice-aggregate-fill-quorum-2 : tie.Need-slice-aggregate-fill-quorum-2
-slice-aggregate-fill-quorum-2 c = sym (raised-long (start-of (c .before .before .before)))
-
-array-borrow-prefix-drawn : tie.Need-array-borrow-prefix-drawn
-array-borrow-prefix-drawn c = admitted-here (start-of (c .before .before .before)) .size
-
-slice-aggregate-fill-quorum-3 : tie.Need-slice-aggregate-fill-quorum-3
-slice-aggregate-fill-quorum-3 c = sym (drawn-long (start-of (c .before .before .before .before)))
-
-fill-quorum-requires : tie.Need-fill-quorum-requires
-fill-quorum-requires c κs =
-    let r = c .before .before .before .before .before .before in
-    let s = start-of r in
-    let a = admitted-here s in
-    let d = drawn-long s in
-    let limit = subst (λ (k : ℕ). countLimit (now (s .args .counts)) (length (now (s .args .stakes))) k .applies ≡ false) (sym d) (a .limit) in
-    (front-here r .is, (a .sum .above, (raised-long s, (a .held, (limit, (a .tries, (omega (arith, d, a .size), omega (arith, d, a .room))))))))
+quorum-with-requires : tie.Need-quorum-with-requires
+quorum-with-requires c κs = search needs
 
 same-length : tie.Need-same-length
 same-length c = search needs
@@ -73,33 +19,36 @@ same-length-2 : tie.Need-same-length-2
 same-length-2 c = search needs
 
 returns : tie.Need-returns
-returns c =
-    let f = c .before .before .before .before .before .before in
-    let s = start-of (f .before .before .before .before .before .before .before) in
-    let ws = drop (s .args .cursor) (now (s .args .list)) in
-    let whole : ℕ → Outcome Committee
-    = λ k. committee k (s .args .tries-allowed) (now (s .args .stakes)) (take (length (now (s .args .stakes))) (now (s .args .counts))) (s .args .max-samples) ws in
-    let d = drawn-long s in (
-      f .fill-quorum .ensures .0 ∙ ap (λ (k : ℕ). quorumAnswer ws (whole k)) d,
-      (
-        f .fill-quorum .ensures .1 .0 ∙ ap (λ (k : ℕ). bufferAfter (whole k) seatIds (now (s .args .seats))) d,
-        f .fill-quorum .ensures .1 .1 ∙ ap (λ (k : ℕ). bufferAfter (whole k) (zeros (now (s .args .stakes))) (now (s .args .counts))) d,
-      ),
-    )
+returns c = search needs
+
+slice-aggregate-quorum-with-2 : tie.Need-slice-aggregate-quorum-with-2
+slice-aggregate-quorum-with-2 c = search needs
+
+quorum-with-requires-2 : tie.Need-quorum-with-requires-2
+quorum-with-requires-2 c κs =
+    let s = c .before .before .before .before .before .before .before .before in
+    (s .pre, admitted (s .args .k) (length (now (s .args .seats))) (s .args .tries-allowed) (now (s .args .stakes)) (now (s .args .counts)) (s .args .max-samples) (s .pre) .size)
+
+same-length-3 : tie.Need-same-length-3
+same-length-3 c = search needs
+
+same-length-4 : tie.Need-same-length-4
+same-length-4 c = search needs
+
+returns-2 : tie.Need-returns-2
+returns-2 c = search needs
 
 pub draw-quorum-spec : {M : Type 1} → statement M
 draw-quorum-spec =
     tie.close
     (tie.spec
-    slice-aggregate-running-sums
-    running-sums-requires
-    array-share-prefix-sums
-    slice-aggregate-fill-quorum
-    array-borrow-prefix-raised
-    slice-aggregate-fill-quorum-2
-    array-borrow-prefix-drawn
-    slice-aggregate-fill-quorum-3
-    fill-quorum-requires
+    slice-aggregate-quorum-with
+    quorum-with-requires
     same-length
     same-length-2
-    returns)
+    returns
+    slice-aggregate-quorum-with-2
+    quorum-with-requires-2
+    same-length-3
+    same-length-4
+    returns-2)
