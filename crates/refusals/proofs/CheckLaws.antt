@@ -2,13 +2,14 @@
 use Prim.Native.Nat.{ℕ, zero, suc, _+_, _-_, _^_, _≤_, _<_}
 use mathlib.Core.Path.{_≡_, refl, sym, ap, _∙_}
 use mathlib.Core.Bool.{Bool, true, false, cond, _||_}
-use mathlib.Core.List.{List, [], _∷_}
+use mathlib.Core.Logic.{_⊎_, inl, inr}
+use mathlib.Core.List.{List, [], _∷_, _++_}
 use native.Mathlib.Numerals.{add-one}
 use native.Mathlib.Omega.{arith}
 use lib.Dec.{eqb, ltb}
-use lib.ListN.{length, getD, take, drop, drop-of-length-le}
-use lib.Seq.{drop-cons, length-take-le, getD-take}
-use borrow.Author.Tests.{ltb-false, leb-false, lt-ltb, le-ltb, le-leb, lt-leb, ne-eqb}
+use lib.ListN.{length, getD, take}
+use lib.Seq.{length-take-le, getD-take, take-suc}
+use borrow.Author.Tests.{ltb-true, ltb-false, leb-false, lt-ltb, le-ltb, le-leb, lt-leb, ne-eqb}
 use Rattle.laws.specs.Sums.{total}
 use Rattle.refusals.specs.declared.Refusal.{Refusal}
 use Rattle.refusals.specs.declared.Refusal.the-variants.{None, Number}
@@ -56,28 +57,44 @@ pub counts-low : (counts : List ℕ) (n k : ℕ) → n ≤ length counts → k �
 counts-low counts n k h l e i m =
     omega (arith, none-above (4294967295 - k) (take n counts) e i (omega (arith, length-take-le n counts h)), getD-take n counts i 0 m)
 
--- a search for a number above the limit: what is left from place i on gives what the whole gives
-pub record Searched (xs : List ℕ) (n limit i : ℕ) : Type 0 where
-  pub within : i ≤ n
-  pub same : anyAbove limit (drop i (take n xs)) ≡ anyAbove limit (take n xs)
+-- one of the first numbers exceeds the limit exactly where the highest of them does
+any-snoc : (limit : ℕ) (xs : List ℕ) (x : ℕ) → anyAbove limit (xs ++ (x ∷ [])) ≡ (anyAbove limit xs || ltb limit x)
+any-snoc limit [] x = go (ltb limit x)
+  where
+    go : (b : Bool) → (b || false) ≡ b
+    go true = refl
+    go false = refl
+any-snoc limit (y ∷ ys) x = rw (any-snoc limit ys x) (go (ltb limit y))
+  where
+    go : (b : Bool) → (b || (anyAbove limit ys || ltb limit x)) ≡ ((b || anyAbove limit ys) || ltb limit x)
+    go true = refl
+    go false = refl
 
-above-here : (limit n : ℕ) (xs : List ℕ) (i : ℕ) → i < n → n ≤ length xs → limit < getD xs i 0 → anyAbove limit (drop i (take n xs)) ≡ true
-above-here limit n xs i l h t = rw (drop-cons (take n xs) i 0 (omega (arith, length-take-le n xs h)), getD-take n xs i 0 l, lt-ltb limit (getD xs i 0) t)
+pub record Highest (xs : List ℕ) (limit highest i : ℕ) : Type 0 where
+  pub same : ltb limit highest ≡ anyAbove limit (take i xs)
 
-above-later : (limit n : ℕ) (xs : List ℕ) (i : ℕ) → i < n → n ≤ length xs → getD xs i 0 ≤ limit →
-    anyAbove limit (drop i (take n xs)) ≡ anyAbove limit (drop (i + 1) (take n xs))
-above-later limit n xs i l h t =
-    rw (drop-cons (take n xs) i 0 (omega (arith, length-take-le n xs h)), getD-take n xs i 0 l, le-ltb limit (getD xs i 0) t, add-one i)
+-- the higher of two exceeds the limit where one of them does
+higher : (limit a b c : ℕ) → ((a < b) × (c ≡ b)) ⊎ ((b ≤ a) × (c ≡ a)) → ltb limit c ≡ (ltb limit a || ltb limit b)
+higher limit a b c (inl (l, e)) = rw e (go (ltb limit a) refl)
+  where
+    go : (t : Bool) → ltb limit a ≡ t → ltb limit b ≡ (t || ltb limit b)
+    go true q = lt-ltb limit b (omega (arith, l, ltb-true limit a q))
+    go false q = refl
+higher limit a b c (inr (l, e)) = rw e (go (ltb limit a) refl)
+  where
+    go : (t : Bool) → ltb limit a ≡ t → t ≡ (t || ltb limit b)
+    go true q = refl
+    go false q = sym (le-ltb limit b (omega (arith, l, ltb-false limit a q)))
 
-pub searched-found : (limit n : ℕ) (xs : List ℕ) (i : ℕ) → i < n → n ≤ length xs → limit < getD xs i 0 → Searched xs n limit i → anyAbove limit (take n xs) ≡ true
-searched-found limit n xs i l h t s = sym (s .same) ∙ above-here limit n xs i l h t
-
-pub searched-next : (limit n : ℕ) (xs : List ℕ) (i : ℕ) → i < n → n ≤ length xs → getD xs i 0 ≤ limit → Searched xs n limit i → Searched xs n limit (i + 1)
-searched-next limit n xs i l h t s = record { within = omega arith; same = sym (above-later limit n xs i l h t) ∙ s .same }
-
-pub searched-all : (limit n : ℕ) (xs : List ℕ) (i : ℕ) → n ≤ i → n ≤ length xs → Searched xs n limit i → anyAbove limit (take n xs) ≡ false
-searched-all limit n xs i l h s =
-    sym (s .same) ∙ ap (anyAbove limit) (drop-of-length-le (take n xs) {i = i} (omega (arith, length-take-le n xs h)))
+pub highest-next : (xs : List ℕ) (limit highest next i : ℕ) → i < length xs → Highest xs limit highest i →
+    ((highest < getD xs i 0) × (next ≡ getD xs i 0)) ⊎ ((getD xs i 0 ≤ highest) × (next ≡ highest)) → Highest xs limit next (i + 1)
+highest-next xs limit highest next i l h d = record {
+  same =
+      higher limit highest (getD xs i 0) next d
+      ∙ ap (λ (b : Bool). b || ltb limit (getD xs i 0)) (h .same)
+      ∙ sym (any-snoc limit (take i xs) (getD xs i 0))
+      ∙ ap (anyAbove limit) (sym (take-suc xs i 0 l) ∙ ap (λ (j : ℕ). take j xs) (sym (add-one i)));
+}
 
 -- the sum: past 2^64 − 1, zero, or neither
 abbrev pub sumRefusal : List ℕ → Refusal

@@ -84,12 +84,14 @@ pub fn bad_counts(counts: &[u32], n: usize, k: usize) -> bool
     ensures { λ r. ⌜ r ≡ countLimit (now (counts .entry)) n k .applies ⌝ }
 {
     let limit = (4_294_967_295 - k) as u32;
+    let mut highest = 0;
     let mut i = 0;
     while i < n {
-        if limit < counts[i] {
-            return true;
+        let count = counts[i];
+        if highest < count {
+            highest = count;
         }
         i += 1;
     }
-    false
+    limit < highest
 }

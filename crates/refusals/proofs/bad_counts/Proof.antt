@@ -1,17 +1,22 @@
--- `refusals::bad_counts` meets its contract. The invariant: what is left of the counts from place i on gives what all of them give.
-use Prim.Native.Nat.{_-_}
-use mathlib.Core.Path.{refl, sym}
+-- `refusals::bad_counts` meets its contract. The invariant: the highest of the first i counts exceeds the limit exactly where one of them does.
+use Prim.Native.Nat.{ℕ, _-_, _≤_, _<_}
+use mathlib.Core.Path.{_≡_, ap, _∙_}
+use mathlib.Core.Logic.{_⊎_, inl, inr}
 use native.Mathlib.Omega.{arith}
-use Rattle.refusals.proofs.CheckLaws.{Searched, searched-found, searched-next, searched-all}
+use lib.ListN.{getD, take}
+use denote.Ref.{now}
+use borrow.Author.Tests.{le-ltb}
+use Rattle.refusals.specs.Refusals.{anyAbove}
+use Rattle.refusals.proofs.CheckLaws.{Highest, highest-next}
 use borrow.Author.Needs.{needs}
 use Rattle.refusals.proofs.bad_counts.Statement.{statement}
 use Rattle.refusals.proofs.bad_counts.Tie as tie
 
 abbrev Inv-loop : tie.InvT-loop
-Inv-loop counts n k limit i₀ i = Searched counts n limit i
+Inv-loop counts n k limit highest₀ i₀ highest i = (i ≤ n) × Highest counts limit highest i
 
 abbrev μ-loop : tie.MeasureT-loop
-μ-loop counts n k limit i₀ i = n - i
+μ-loop counts n k limit highest₀ i₀ highest i = n - i
 
 sub-limit : tie.Need-sub-limit Inv-loop μ-loop
 sub-limit c = search needs
@@ -19,20 +24,21 @@ sub-limit c = search needs
 cast-limit : tie.Need-cast-limit Inv-loop μ-loop
 cast-limit c = search needs
 
+-- the branch inside the loop
+came : (c : tie.Joined1 Inv-loop μ-loop) →
+    let l = c .before .before .before in
+    let x = getD (now (l .before .args .counts)) (l .loop .i) 0 in
+    ((l .loop .highest < x) × (c .if1 .highest ≡ x)) ⊎ ((x ≤ l .loop .highest) × (c .if1 .highest ≡ l .loop .highest))
+came c = elim (c .if1 .came) [ inl x ↦ inl (x .0 .taken, x .1) | inr y ↦ inr (y .0 .left, y .1) ]
+
 loop-holds : tie.Need-loop-holds Inv-loop μ-loop
-loop-holds c = record { within = omega arith; same = refl }
+loop-holds c = (omega arith, record { same = le-ltb (4294967295 - c .args .k) 0 (omega arith) })
 
-mul-if1 : tie.Need-mul-if1 Inv-loop μ-loop
-mul-if1 c = search needs
+mul-count : tie.Need-mul-count Inv-loop μ-loop
+mul-count c = search needs
 
-shared-slice-read-if1 : tie.Need-shared-slice-read-if1 Inv-loop μ-loop
-shared-slice-read-if1 c = search needs
-
-returns : tie.Need-returns Inv-loop μ-loop
-returns c =
-    let l = c .before .before in
-    let s = l .before .before in
-    sym (searched-found _ (s .args .n) _ (l .before .loop .i) (l .loop-test .taken) (s .pre .0) (c .if1 .taken) (l .before .loop .inv))
+shared-slice-read-count : tie.Need-shared-slice-read-count Inv-loop μ-loop
+shared-slice-read-count c = search needs
 
 add-i : tie.Need-add-i Inv-loop μ-loop
 add-i c = search needs
@@ -42,14 +48,15 @@ loop-less c = search needs
 
 loop-again : tie.Need-loop-again Inv-loop μ-loop
 loop-again c =
-    let l = c .before .before in
-    let s = l .before .before in
-    searched-next _ (s .args .n) _ (l .before .loop .i) (l .loop-test .taken) (s .pre .0) (c .if1 .left) (l .before .loop .inv)
+    let l = c .before .before .before in
+    let s = l .before in
+    (omega (arith, c .before .before .loop-test .taken), highest-next (now (s .args .counts)) _ (l .loop .highest) (c .if1 .highest) (l .loop .i) (omega (arith, c .before .before .loop-test .taken, s .pre .0)) (l .loop .inv .1) (came c))
 
-returns-2 : tie.Need-returns-2 Inv-loop μ-loop
-returns-2 c =
-    let s = c .before .before in
-    sym (searched-all _ (s .args .n) _ (c .before .loop .i) (c .loop-test .left) (s .pre .0) (c .before .loop .inv))
+returns : tie.Need-returns Inv-loop μ-loop
+returns c =
+    let l = c .before in
+    let e : l .loop .i ≡ l .before .args .n = omega (arith, c .loop-test .left, l .loop .inv .0) in
+    l .loop .inv .1 .same ∙ ap (λ (j : ℕ). anyAbove (4294967295 - l .before .args .k) (take j (now (l .before .args .counts)))) e
 
 pub bad-counts-spec : {M : Type 1} → statement M
 bad-counts-spec =
@@ -60,10 +67,9 @@ bad-counts-spec =
     sub-limit
     cast-limit
     loop-holds
-    mul-if1
-    shared-slice-read-if1
-    returns
+    mul-count
+    shared-slice-read-count
     add-i
     loop-less
     loop-again
-    returns-2)
+    returns)
