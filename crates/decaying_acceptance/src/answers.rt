@@ -8,6 +8,7 @@ pub struct Sample {
     pub words_read: usize,
 }
 
+// What `sample_one` answers. A refusal is its number.
 pub enum SampleAnswer {
     Accepted(Sample),
     Refused(u64),
@@ -19,6 +20,7 @@ pub struct Quorum {
     pub words_read: usize,
 }
 
+// What `sample_quorum` answers, likewise.
 pub enum QuorumAnswer {
     Accepted(Quorum),
     Refused(u64),

@@ -18,7 +18,7 @@ ghost use Rattle.decaying_acceptance.specs.Seats.{committee, seatIds};
 ghost use Rattle.decaying_acceptance.specs.Calls.{quorumChecks};
 ghost use Rattle.decaying_acceptance.specs.Answers.{seatsSays, seated, quorumAnswer, zeros};
 
-// The tries over all seats that were drawn.
+// What drawing all seats gives: the tries over all of them, or 12 or 13.
 pub enum DrawnSeats {
     Drawn(usize),
     Refused(u64),

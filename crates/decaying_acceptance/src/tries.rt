@@ -19,6 +19,7 @@ pub struct Try {
     pub taken: bool,
 }
 
+// What a try gives.
 pub enum Tried {
     Made(Try),
     NoWord,
@@ -30,6 +31,7 @@ pub struct Seat {
     pub tries: usize,
 }
 
+// What drawing a seat gives: the seat, or 12 or 13.
 pub enum DrawnSeat {
     Drawn(Seat),
     Refused(u64),

@@ -35,6 +35,7 @@ pub struct Sample {
     pub words_read: usize,
 }
 
+// What `sample` answers. A refusal is its number.
 pub enum SampleAnswer {
     Accepted(Sample),
     Refused(u64),
@@ -45,6 +46,7 @@ pub struct Quorum {
     pub words_read: usize,
 }
 
+// What `sample_quorum` answers, likewise.
 pub enum QuorumAnswer {
     Accepted(Quorum),
     Refused(u64),
