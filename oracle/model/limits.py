@@ -69,6 +69,10 @@ def accepted(holds):
 
 # ---- Every sampler ----
 
+def lengths(*numbers):
+    return {f"{n} validators": accepted(lambda c, n=n: c.n == n) for n in numbers}
+
+
 LISTS = {
     "one validator": accepted(lambda c: c.n == 1),
     "4,096 validators": accepted(lambda c: c.n == MAX_LIST),
@@ -86,6 +90,9 @@ LISTS = {
         lambda c: 0 in c.stakes[1:-1] and c.stakes[0] > 0 and c.stakes[-1] > 0),
 }
 
+# Lists for which a call takes a larger room for what it keeps.
+ROOMS = lengths(64, 65, 512, 513, 2_048, 2_049)
+
 WORDS = {
     "a skipped word": accepted(lambda c: c.answer["read"] > c.draws),
     "only skipped words": refused(
@@ -101,7 +108,7 @@ WORDS = {
 }
 
 COMMITTEES = {
-    **{f"{k} seats": accepted(lambda c, k=k: c.k == k) for k in (0, 1, MAX_SEATS)},
+    **{f"{k} seats": accepted(lambda c, k=k: c.k == k) for k in (0, 1, 64, 65, MAX_SEATS)},
     "1,025 seats": refused(2, lambda c: c.k == MAX_SEATS + 1),
     "4,096 validators, 1,024 seats": accepted(lambda c: c.n == MAX_LIST and c.k == MAX_SEATS),
     **{f"room for {more} seats more": accepted(
@@ -197,14 +204,15 @@ RESET = {
 # The limits of each function, by the crate of the program that replays it.
 LIMITS = {
     "stake_weighted_cases": {
-        "sample": {**LISTS, **WORDS},
-        "sample_quorum": {**LISTS, **WORDS, **COMMITTEES,
+        "sample": {**LISTS, **ROOMS, **WORDS},
+        "sample_quorum": {**LISTS, **ROOMS, **WORDS, **COMMITTEES,
                           **words_end(5, stakes=[2, 0, 3, 1, 5], k=5)},
     },
     "decaying_acceptance_cases": {
-        "sample_one": {**LISTS, **WORDS, **DECAYING, **last_try(1, "the seat"),
+        "sample_one": {**LISTS, **lengths(64, 65, 512, 513), **WORDS, **DECAYING,
+                       **last_try(1, "the seat"),
                        **words_end(6, stakes=[1, 1], counts=[1, 0])},
-        "sample_quorum": {**LISTS, **WORDS, **COMMITTEES, **DECAYING,
+        "sample_quorum": {**LISTS, **lengths(64, 65, 512, 513), **WORDS, **COMMITTEES, **DECAYING,
                           **REJECTIONS, **last_try(1, "the only seat"),
                           **last_try(2, "the second seat"),
                           **words_end(10, stakes=[1, 1], k=3, counts=[1, 0])},

@@ -230,7 +230,8 @@ def as_compared(operation, given):
     fields = {"k": 1, **given, "words": given["words"][given["cursor"]:]}
     if "counts" in given:
         fields["counts"] = given["counts"][:len(given["stakes"])]
-    return model.write_fields(operation, {name: fields[name] for name in COMPARED_FIELDS[operation]})
+    names = COMPARED_FIELDS[operation]
+    return model.write_fields(operation, {name: fields[name] for name in names})
 
 
 def is_short(given):
