@@ -412,8 +412,8 @@ def long_list_cases(_rng):
         yield from sampler_cases([i % 3 for i in range(n)], k, spread)
 
 
-def room_cases(_rng):
-    """The lengths and sizes at which a sampler takes a larger room for what it keeps."""
+def scratch_cases(_rng):
+    """The lengths and sizes at which a sampler takes more scratch space."""
     for n in (64, 65, 512, 513, 2_048, 2_049):
         yield from sampler_cases([i % 3 for i in range(n)], 1, spread)
     for k in (64, 65):
@@ -456,7 +456,7 @@ def view_cases(rng):
 
 LIMITS = (length_cases, size_cases, sum_cases, worked_cases, whole_seat_cases, no_seat_cases,
           dry_cases, decaying_cases, last_try_cases, later_try_cases, rejected_once_cases,
-          dry_try_cases, long_list_cases, room_cases, zero_stake_cases, skip_cases, lowest_cases,
+          dry_try_cases, long_list_cases, scratch_cases, zero_stake_cases, skip_cases, lowest_cases,
           view_cases)
 
 

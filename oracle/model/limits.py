@@ -90,8 +90,8 @@ LISTS = {
         lambda c: 0 in c.stakes[1:-1] and c.stakes[0] > 0 and c.stakes[-1] > 0),
 }
 
-# Lists for which a call takes a larger room for what it keeps.
-ROOMS = lengths(64, 65, 512, 513, 2_048, 2_049)
+# Lists for which a call takes more scratch space.
+SCRATCH = lengths(64, 65, 512, 513, 2_048, 2_049)
 
 WORDS = {
     "a skipped word": accepted(lambda c: c.answer["read"] > c.draws),
@@ -204,8 +204,8 @@ RESET = {
 # The limits of each function, by the crate of the program that replays it.
 LIMITS = {
     "stake_weighted_cases": {
-        "sample": {**LISTS, **ROOMS, **WORDS},
-        "sample_quorum": {**LISTS, **ROOMS, **WORDS, **COMMITTEES,
+        "sample": {**LISTS, **SCRATCH, **WORDS},
+        "sample_quorum": {**LISTS, **SCRATCH, **WORDS, **COMMITTEES,
                           **words_end(5, stakes=[2, 0, 3, 1, 5], k=5)},
     },
     "decaying_acceptance_cases": {

@@ -48,7 +48,7 @@ abbrev pub seatSays : DrawnSeat → List ℕ → Outcome Seat
 seatSays (drawnSeat.Drawn s) left = accepted s left
 seatSays (drawnSeat.Refused n) left = refused n
 
--- the seatIds of a committee's seats, and the tries
+-- the ids of a committee's seats, and the tries
 pub record Seated : Type 0 where
   pub seats : List ℕ
   pub tries : ℕ

@@ -58,8 +58,8 @@ fn take_one(
     }
 }
 
-// One validator, with room for the running sums.
-fn one_in(
+// One validator, with scratch space for the running sums.
+fn one_in_scratch(
     max_samples: f64,
     tries_allowed: usize,
     stakes: &[u64],
@@ -86,8 +86,8 @@ fn one_in(
     )
 }
 
-// One validator, by a call that is not turned down. The room for the running sums goes by the list: zeros that are not needed cost
-// time.
+// One validator, by a call that is not turned down. The scratch space for the running sums is chosen by the length of the list,
+// since zeroing what is not needed costs time.
 pub fn draw_one(
     max_samples: f64,
     tries_allowed: usize,
@@ -103,7 +103,7 @@ pub fn draw_one(
     let n = stakes.len();
     if n <= 64 {
         let mut sums = [0u64; 64];
-        return one_in(
+        return one_in_scratch(
             max_samples,
             tries_allowed,
             stakes,
@@ -115,7 +115,7 @@ pub fn draw_one(
     }
     if n <= 512 {
         let mut sums = [0u64; 512];
-        return one_in(
+        return one_in_scratch(
             max_samples,
             tries_allowed,
             stakes,
@@ -127,7 +127,7 @@ pub fn draw_one(
     }
     if n <= 2048 {
         let mut sums = [0u64; 2048];
-        return one_in(
+        return one_in_scratch(
             max_samples,
             tries_allowed,
             stakes,
@@ -138,7 +138,7 @@ pub fn draw_one(
         );
     }
     let mut sums = [0u64; 4096];
-    one_in(
+    one_in_scratch(
         max_samples,
         tries_allowed,
         stakes,

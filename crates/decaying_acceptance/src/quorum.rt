@@ -134,8 +134,8 @@ fn fill_quorum(
     }
 }
 
-// A committee of k, with room for the running sums, the raised counts and the seats while they are drawn.
-fn quorum_in(
+// A committee of k, with scratch space for the running sums, the raised counts and the seats while they are drawn.
+fn quorum_in_scratch(
     max_samples: f64,
     tries_allowed: usize,
     k: usize,
@@ -172,9 +172,9 @@ fn quorum_in(
     )
 }
 
-// A committee of k, with room for the seats. The room for what is kept for each validator goes by the list: zeros that are not
-// needed cost time.
-fn quorum_with(
+// A committee of k, with scratch space for the seats; that for running sums and raised counts is chosen by the length of the list,
+// since zeroing what is not needed costs time.
+fn quorum_by_length(
     max_samples: f64,
     tries_allowed: usize,
     k: usize,
@@ -195,7 +195,7 @@ fn quorum_with(
     if n <= 64 {
         let mut sums = [0u64; 64];
         let mut raised = [0u32; 64];
-        return quorum_in(
+        return quorum_in_scratch(
             max_samples,
             tries_allowed,
             k,
@@ -212,7 +212,7 @@ fn quorum_with(
     if n <= 512 {
         let mut sums = [0u64; 512];
         let mut raised = [0u32; 512];
-        return quorum_in(
+        return quorum_in_scratch(
             max_samples,
             tries_allowed,
             k,
@@ -229,7 +229,7 @@ fn quorum_with(
     if n <= 2048 {
         let mut sums = [0u64; 2048];
         let mut raised = [0u32; 2048];
-        return quorum_in(
+        return quorum_in_scratch(
             max_samples,
             tries_allowed,
             k,
@@ -245,7 +245,7 @@ fn quorum_with(
     }
     let mut sums = [0u64; 4096];
     let mut raised = [0u32; 4096];
-    quorum_in(
+    quorum_in_scratch(
         max_samples,
         tries_allowed,
         k,
@@ -278,7 +278,7 @@ pub fn draw_quorum(
 {
     if k <= 64 {
         let mut drawn = [0u64; 64];
-        return quorum_with(
+        return quorum_by_length(
             max_samples,
             tries_allowed,
             k,
@@ -291,7 +291,7 @@ pub fn draw_quorum(
         );
     }
     let mut drawn = [0u64; 1024];
-    quorum_with(
+    quorum_by_length(
         max_samples,
         tries_allowed,
         k,

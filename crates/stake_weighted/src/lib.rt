@@ -185,8 +185,8 @@ fn fill_quorum(
     }
 }
 
-// A committee of k, with room for the running sums and for the seats while they are drawn.
-fn quorum_in(
+// A committee of k, with scratch space for the running sums and for the seats while they are drawn.
+fn quorum_in_scratch(
     stakes: &[u64],
     k: usize,
     list: &[u64],
@@ -206,8 +206,9 @@ fn quorum_in(
     fill_quorum(stakes, &sums[..n], list, cursor, &mut drawn[..k], seats)
 }
 
-// A committee of k, with room for the seats. The room for the running sums goes by the list: zeros that are not needed cost time.
-fn quorum_with(
+// A committee of k, with scratch space for the seats; that for the running sums is chosen by the length of the list, since zeroing
+// what is not needed costs time.
+fn quorum_by_length(
     stakes: &[u64],
     k: usize,
     list: &[u64],
@@ -223,18 +224,18 @@ fn quorum_with(
     let n = stakes.len();
     if n <= 64 {
         let mut sums = [0u64; 64];
-        return quorum_in(stakes, k, list, cursor, &mut sums, drawn, seats);
+        return quorum_in_scratch(stakes, k, list, cursor, &mut sums, drawn, seats);
     }
     if n <= 512 {
         let mut sums = [0u64; 512];
-        return quorum_in(stakes, k, list, cursor, &mut sums, drawn, seats);
+        return quorum_in_scratch(stakes, k, list, cursor, &mut sums, drawn, seats);
     }
     if n <= 2048 {
         let mut sums = [0u64; 2048];
-        return quorum_in(stakes, k, list, cursor, &mut sums, drawn, seats);
+        return quorum_in_scratch(stakes, k, list, cursor, &mut sums, drawn, seats);
     }
     let mut sums = [0u64; 4096];
-    quorum_in(stakes, k, list, cursor, &mut sums, drawn, seats)
+    quorum_in_scratch(stakes, k, list, cursor, &mut sums, drawn, seats)
 }
 
 // A committee of k, by a call that is not turned down.
@@ -251,8 +252,8 @@ fn draw_quorum(
 {
     if k <= 64 {
         let mut drawn = [0u64; 64];
-        return quorum_with(stakes, k, list, cursor, &mut drawn, seats);
+        return quorum_by_length(stakes, k, list, cursor, &mut drawn, seats);
     }
     let mut drawn = [0u64; 1024];
-    quorum_with(stakes, k, list, cursor, &mut drawn, seats)
+    quorum_by_length(stakes, k, list, cursor, &mut drawn, seats)
 }

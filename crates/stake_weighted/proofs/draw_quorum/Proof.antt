@@ -1,4 +1,4 @@
--- `stake_weighted::draw_quorum` meets its contract: each room for the seats has a place for each.
+-- `stake_weighted::draw_quorum` meets its contract: each scratch array for the seats has a place for each.
 use denote.Ref.{now}
 use lib.ListN.{length}
 use Rattle.stake_weighted.proofs.CallLaws.{admitted}
@@ -6,11 +6,11 @@ use borrow.Author.Needs.{needs}
 use Rattle.stake_weighted.proofs.draw_quorum.Statement.{statement}
 use Rattle.stake_weighted.proofs.draw_quorum.Tie as tie
 
-slice-aggregate-quorum-with : tie.Need-slice-aggregate-quorum-with
-slice-aggregate-quorum-with c = search needs
+slice-aggregate-quorum-by-length : tie.Need-slice-aggregate-quorum-by-length
+slice-aggregate-quorum-by-length c = search needs
 
-quorum-with-requires : tie.Need-quorum-with-requires
-quorum-with-requires c κs = search needs
+quorum-by-length-requires : tie.Need-quorum-by-length-requires
+quorum-by-length-requires c κs = search needs
 
 same-length : tie.Need-same-length
 same-length c = search needs
@@ -18,11 +18,11 @@ same-length c = search needs
 returns : tie.Need-returns
 returns c = search needs
 
-slice-aggregate-quorum-with-2 : tie.Need-slice-aggregate-quorum-with-2
-slice-aggregate-quorum-with-2 c = search needs
+slice-aggregate-quorum-by-length-2 : tie.Need-slice-aggregate-quorum-by-length-2
+slice-aggregate-quorum-by-length-2 c = search needs
 
-quorum-with-requires-2 : tie.Need-quorum-with-requires-2
-quorum-with-requires-2 c κs =
+quorum-by-length-requires-2 : tie.Need-quorum-by-length-requires-2
+quorum-by-length-requires-2 c κs =
     let s = c .before .before .before .before .before .before in
     (s .pre, admitted (now (s .args .stakes)) (s .args .k) (length (now (s .args .seats))) (s .pre) .size)
 
@@ -36,11 +36,11 @@ pub draw-quorum-spec : {M : Type 1} → statement M
 draw-quorum-spec =
     tie.close
     (tie.spec
-    slice-aggregate-quorum-with
-    quorum-with-requires
+    slice-aggregate-quorum-by-length
+    quorum-by-length-requires
     same-length
     returns
-    slice-aggregate-quorum-with-2
-    quorum-with-requires-2
+    slice-aggregate-quorum-by-length-2
+    quorum-by-length-requires-2
     same-length-2
     returns-2)

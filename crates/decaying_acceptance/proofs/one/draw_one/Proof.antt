@@ -1,15 +1,15 @@
--- `decaying_acceptance::one::draw_one` meets its contract: each room for the running sums has a place for each stake.
+-- `decaying_acceptance::one::draw_one` meets its contract: each scratch array for the running sums has a place for each stake.
 use denote.Ref.{now}
 use Rattle.decaying_acceptance.proofs.CallLaws.{admitted}
 use borrow.Author.Needs.{needs}
 use Rattle.decaying_acceptance.proofs.one.draw_one.Statement.{statement}
 use Rattle.decaying_acceptance.proofs.one.draw_one.Tie as tie
 
-slice-aggregate-one-in : tie.Need-slice-aggregate-one-in
-slice-aggregate-one-in c = search needs
+slice-aggregate-one-in-scratch : tie.Need-slice-aggregate-one-in-scratch
+slice-aggregate-one-in-scratch c = search needs
 
-one-in-requires : tie.Need-one-in-requires
-one-in-requires c κs = search needs
+one-in-scratch-requires : tie.Need-one-in-scratch-requires
+one-in-scratch-requires c κs = search needs
 
 same-length : tie.Need-same-length
 same-length c = search needs
@@ -17,11 +17,11 @@ same-length c = search needs
 returns : tie.Need-returns
 returns c = search needs
 
-slice-aggregate-one-in-2 : tie.Need-slice-aggregate-one-in-2
-slice-aggregate-one-in-2 c = search needs
+slice-aggregate-one-in-scratch-2 : tie.Need-slice-aggregate-one-in-scratch-2
+slice-aggregate-one-in-scratch-2 c = search needs
 
-one-in-requires-2 : tie.Need-one-in-requires-2
-one-in-requires-2 c κs = search needs
+one-in-scratch-requires-2 : tie.Need-one-in-scratch-requires-2
+one-in-scratch-requires-2 c κs = search needs
 
 same-length-2 : tie.Need-same-length-2
 same-length-2 c = search needs
@@ -29,11 +29,11 @@ same-length-2 c = search needs
 returns-2 : tie.Need-returns-2
 returns-2 c = search needs
 
-slice-aggregate-one-in-3 : tie.Need-slice-aggregate-one-in-3
-slice-aggregate-one-in-3 c = search needs
+slice-aggregate-one-in-scratch-3 : tie.Need-slice-aggregate-one-in-scratch-3
+slice-aggregate-one-in-scratch-3 c = search needs
 
-one-in-requires-3 : tie.Need-one-in-requires-3
-one-in-requires-3 c κs = search needs
+one-in-scratch-requires-3 : tie.Need-one-in-scratch-requires-3
+one-in-scratch-requires-3 c κs = search needs
 
 same-length-3 : tie.Need-same-length-3
 same-length-3 c = search needs
@@ -41,11 +41,11 @@ same-length-3 c = search needs
 returns-3 : tie.Need-returns-3
 returns-3 c = search needs
 
-slice-aggregate-one-in-4 : tie.Need-slice-aggregate-one-in-4
-slice-aggregate-one-in-4 c = search needs
+slice-aggregate-one-in-scratch-4 : tie.Need-slice-aggregate-one-in-scratch-4
+slice-aggregate-one-in-scratch-4 c = search needs
 
-one-in-requires-4 : tie.Need-one-in-requires-4
-one-in-requires-4 c κs =
+one-in-scratch-requires-4 : tie.Need-one-in-scratch-requires-4
+one-in-scratch-requires-4 c κs =
     let s = c .before .before .before .before .before .before .before .before in
     (s .pre, admitted 1 1 (s .args .tries-allowed) (now (s .args .stakes)) (now (s .args .counts)) (s .args .max-samples) (s .pre) .list .long)
 
@@ -59,19 +59,19 @@ pub draw-one-spec : {M : Type 1} → statement M
 draw-one-spec =
     tie.close
     (tie.spec
-    slice-aggregate-one-in
-    one-in-requires
+    slice-aggregate-one-in-scratch
+    one-in-scratch-requires
     same-length
     returns
-    slice-aggregate-one-in-2
-    one-in-requires-2
+    slice-aggregate-one-in-scratch-2
+    one-in-scratch-requires-2
     same-length-2
     returns-2
-    slice-aggregate-one-in-3
-    one-in-requires-3
+    slice-aggregate-one-in-scratch-3
+    one-in-scratch-requires-3
     same-length-3
     returns-3
-    slice-aggregate-one-in-4
-    one-in-requires-4
+    slice-aggregate-one-in-scratch-4
+    one-in-scratch-requires-4
     same-length-4
     returns-4)

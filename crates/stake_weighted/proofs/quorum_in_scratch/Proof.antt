@@ -1,4 +1,4 @@
--- `stake_weighted::quorum_in` meets its contract: the running sums stand at the front of the one room, and the other has a place for each seat.
+-- `stake_weighted::quorum_in_scratch` meets its contract: the running sums stand at the front of one scratch array, and the other has a place for each seat.
 use Prim.Native.Nat.{ℕ}
 use mathlib.Core.Path.{_≡_, sym, ap, _∙_}
 use native.Mathlib.Omega.{arith}
@@ -12,8 +12,8 @@ use Rattle.stake_weighted.specs.Seats.{iid}
 use Rattle.stake_weighted.specs.Answers.{quorumAnswer}
 use Rattle.stake_weighted.proofs.CallLaws.{Admitted, admitted}
 use borrow.Author.Needs.{needs}
-use Rattle.stake_weighted.proofs.quorum_in.Statement.{statement}
-use Rattle.stake_weighted.proofs.quorum_in.Tie as tie
+use Rattle.stake_weighted.proofs.quorum_in_scratch.Statement.{statement}
+use Rattle.stake_weighted.proofs.quorum_in_scratch.Tie as tie
 
 admitted-here : (c : tie.Start) → Admitted (now (c .args .stakes)) (c .args .k) (length (now (c .args .seats)))
 admitted-here c = admitted (now (c .args .stakes)) (c .args .k) (length (now (c .args .seats))) (c .pre .0)
@@ -24,7 +24,7 @@ start-of c = c .before .before .before .before .before .before .before
 front-here : (c : tie.After-running-sums) → Front (now (start-of c .args .stakes)) (c .running-sums .last .1 .0)
 front-here c = front (now (start-of c .args .stakes)) _ (c .running-sums .last .1 .0) (c .running-sums .ensures)
 
--- as many seats are drawn as the part of the room has places
+-- as many seats are drawn as the part of the scratch array has places
 drawn-long : (c : tie.Start) → length (take (c .args .k) (now (c .args .drawn))) ≡ c .args .k
 drawn-long c = length-take-le (c .args .k) (now (c .args .drawn)) (c .pre .1 .1)
 
@@ -71,8 +71,8 @@ returns c =
       f .fill-quorum .ensures .1 ∙ ap (λ (k : ℕ). bufferAfter (iid k (now (s .args .stakes)) ws) ids (now (s .args .seats))) n,
     )
 
-pub quorum-in-spec : {M : Type 1} → statement M
-quorum-in-spec =
+pub quorum-in-scratch-spec : {M : Type 1} → statement M
+quorum-in-scratch-spec =
     tie.close
     (tie.spec
     running-sums-requires

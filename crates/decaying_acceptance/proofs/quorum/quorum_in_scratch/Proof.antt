@@ -1,4 +1,4 @@
--- `decaying_acceptance::quorum::quorum_in` meets its contract: the running sums stand at the front of the one room, and the others have a place for
+-- `decaying_acceptance::quorum::quorum_in_scratch` meets its contract: the running sums stand at the front of one scratch array, and the others have a place for
 -- each count and each seat.
 use Prim.Native.Nat.{ℕ}
 use mathlib.Core.Path.{_≡_, sym, ap, _∙_, subst}
@@ -14,8 +14,8 @@ use Rattle.decaying_acceptance.specs.Seats.{Committee, committee, seatId
 use Rattle.decaying_acceptance.specs.Answers.{quorumAnswer, zeros}
 use Rattle.decaying_acceptance.proofs.CallLaws.{Admitted, admitted}
 use borrow.Author.Needs.{needs}
-use Rattle.decaying_acceptance.proofs.quorum.quorum_in.Statement.{statement}
-use Rattle.decaying_acceptance.proofs.quorum.quorum_in.Tie as tie
+use Rattle.decaying_acceptance.proofs.quorum.quorum_in_scratch.Statement.{statement}
+use Rattle.decaying_acceptance.proofs.quorum.quorum_in_scratch.Tie as tie
 
 admitted-here : (c : tie.Start) → Admitted (c .args .k) (length (now (c .args .seats))) (c .args .tries-allowed) (now (c .args .stakes)) (now (c .args .counts))
 admitted-here c = admitted (c .args .k) (length (now (c .args .seats))) (c .args .tries-allowed) (now (c .args .stakes)) (now (c .args .counts)) (c .args .max-samples) (c .pre .0)
@@ -26,7 +26,7 @@ start-of c = c .before .before .before .before .before .before .before .before .
 front-here : (c : tie.After-running-sums) → Front (now (start-of c .args .stakes)) (c .running-sums .last .1 .0)
 front-here c = front (now (start-of c .args .stakes)) _ (c .running-sums .last .1 .0) (c .running-sums .ensures)
 
--- the parts of the rooms have as many places as there are stakes and seats
+-- the parts of the scratch arrays have as many places as there are stakes and seats
 raised-long : (c : tie.Start) → length (take (length (now (c .args .stakes))) (now (c .args .raised))) ≡ length (now (c .args .stakes))
 raised-long c = length-take-le (length (now (c .args .stakes))) (now (c .args .raised)) (c .pre .1 .1 .0)
 
@@ -93,8 +93,8 @@ returns c =
       ),
     )
 
-pub quorum-in-spec : {M : Type 1} → statement M
-quorum-in-spec =
+pub quorum-in-scratch-spec : {M : Type 1} → statement M
+quorum-in-scratch-spec =
     tie.close
     (tie.spec
     running-sums-requires

@@ -1,10 +1,10 @@
--- `decaying_acceptance::one::one_in` meets its contract: the running sums stand at the front of the room.
+-- `decaying_acceptance::one::one_in_scratch` meets its contract: the running sums stand at the front of the scratch array.
 use denote.Ref.{now}
 use Rattle.draws.proofs.WeightedLaws.{Front, front}
 use Rattle.decaying_acceptance.proofs.CallLaws.{Admitted, admitted}
 use borrow.Author.Needs.{needs}
-use Rattle.decaying_acceptance.proofs.one.one_in.Statement.{statement}
-use Rattle.decaying_acceptance.proofs.one.one_in.Tie as tie
+use Rattle.decaying_acceptance.proofs.one.one_in_scratch.Statement.{statement}
+use Rattle.decaying_acceptance.proofs.one.one_in_scratch.Tie as tie
 
 admitted-here : (c : tie.Start) → Admitted 1 1 (c .args .tries-allowed) (now (c .args .stakes)) (now (c .args .counts))
 admitted-here c = admitted 1 1 (c .args .tries-allowed) (now (c .args .stakes)) (now (c .args .counts)) (c .args .max-samples) (c .pre .0)
@@ -39,8 +39,8 @@ same-length-2 c = search needs
 returns : tie.Need-returns
 returns c = search needs
 
-pub one-in-spec : {M : Type 1} → statement M
-one-in-spec =
+pub one-in-scratch-spec : {M : Type 1} → statement M
+one-in-scratch-spec =
     tie.close
     (tie.spec
     running-sums-requires
