@@ -16,8 +16,8 @@ ghost use Rattle.decaying_acceptance.specs.Answers.{sampleAnswer, counts
 // The tries per seat that the original allows.
 pub const MAX_TRIES_PER_SAMPLE: usize = 100_000;
 
-// A sampler that rejects a validator the more often, the more often it was sampled before. None is sampled more than
-// `ceil(max_samples)` times.
+// A sampler that rejects a validator the more often, the more often it was sampled before, and always once its count has reached
+// `max_samples`.
 pub struct DecayingAcceptanceSampler {
     max_samples: f64,
     tries_allowed: usize,
