@@ -1,6 +1,6 @@
 -- "Reasons to turn a call down": the number and the condition of each, in the order in which they are checked.
-use Prim.Native.Nat.{ℕ, _-_, _^_}
-use mathlib.Core.Bool.{Bool, false, cond, not, _||_}
+use Prim.Native.Nat.{ℕ, _-_, _*_, _^_}
+use mathlib.Core.Bool.{Bool, false, cond, not, _&&_, _||_}
 use mathlib.Core.List.{List, [], _∷_}
 use lib.Dec.{eqb, leb, ltb}
 use lib.ListN.{take}
@@ -27,6 +27,10 @@ listLength n = record { number = 1; applies = ltb 4096 n || eqb n 0 }
 -- "k or b over 1,024"
 abbrev pub size : ℕ → Check
 size k = record { number = 2; applies = ltb 1024 k }
+
+-- "or k = 0 for FA1"
+abbrev pub committeeSize : ℕ → Check
+committeeSize k = record { number = 2; applies = ltb 1024 k || eqb k 0 }
 
 -- "tries allowed per seat 0 or over 100,000"
 abbrev pub triesAllowed : ℕ → Check
@@ -56,6 +60,10 @@ anyAbove limit (x ∷ xs) = ltb limit x || anyAbove limit xs
 -- "one of the first n stored u32 counts exceeds 4,294,967,295 − k"
 abbrev pub countLimit : List ℕ → ℕ → ℕ → Check
 countLimit counts n k = record { number = 10; applies = anyAbove (4294967295 - k) (take n counts) }
+
+-- "a bin would be empty: b at least 1 and (b − 1) × ceil(S / b) ≥ S", where the weights sum to S and a bin holds the capacity
+abbrev pub emptyBin : ℕ → ℕ → ℕ → Check
+emptyBin capacity S b = record { number = 11; applies = leb 1 b && leb S ((b - 1) * capacity) }
 
 -- "a word is needed and none is left"
 abbrev pub noWordLeft : ℕ

@@ -1,11 +1,11 @@
 // Reasons to turn a call down: the number of each, and the tests of their conditions.
 use types::CheckedStake;
 use types::Stake;
-ghost use Prim.Native.Nat.{_≤_};
+ghost use Prim.Native.Nat.{_*_, _-_, _≤_, _<_, _^_};
 ghost use mathlib.Core.Path.{_≡_};
 ghost use mathlib.Core.List.{[], _∷_};
 ghost use lib.ListN.{length};
-ghost use Rattle.refusals.specs.Refusals.{lowest, listLength, size, triesAllowed, maxSamples, sumPast, totalZero, countLimit};
+ghost use Rattle.refusals.specs.Refusals.{lowest, listLength, size, committeeSize, emptyBin, triesAllowed, maxSamples, sumPast, totalZero, countLimit};
 
 // Whether a call is turned down, and by which number.
 pub enum Refusal {
@@ -29,6 +29,8 @@ pub const TOTAL_ZERO: u64 = 9;
 
 pub const COUNT_LIMIT: u64 = 10;
 
+pub const EMPTY_BIN: u64 = 11;
+
 pub const NO_WORD_LEFT: u64 = 12;
 
 pub const LAST_TRY_REJECTED: u64 = 13;
@@ -45,6 +47,13 @@ pub fn bad_size(k: usize) -> bool
     ensures { λ r. ⌜ r ≡ size k .applies ⌝ }
 {
     1024 < k
+}
+
+// 2, for a committee that may not be empty.
+pub fn bad_committee_size(k: usize) -> bool
+    ensures { λ r. ⌜ r ≡ committeeSize k .applies ⌝ }
+{
+    1024 < k || k == 0
 }
 
 // 3.
@@ -94,4 +103,12 @@ pub fn bad_counts(counts: &[u32], n: usize, k: usize) -> bool
         i += 1;
     }
     limit < highest
+}
+
+// 11, for bins of this capacity that are filled with weights of this sum.
+pub fn bad_bins(capacity: u64, sum: u64, bins: usize) -> bool
+    requires { ⌜ (bins - 1) * capacity < 2 ^ 64 ⌝ }
+    ensures { λ r. ⌜ r ≡ emptyBin capacity sum bins .applies ⌝ }
+{
+    1 <= bins && sum <= ((bins - 1) as u64) * capacity
 }

@@ -1,11 +1,13 @@
 -- What holds of every accepted call.
 use Prim.Native.Nat.{ℕ, zero, suc, _<_}
 use mathlib.Core.Path.{_≡_, refl, ap}
-use mathlib.Core.List.{List, [], _∷_}
+use mathlib.Core.List.{List, []}
+use lib.ListN.{replicate}
 use Rattle.laws.specs.Sums.{total}
 use Rattle.refusals.specs.Refusals.{lowest}
-use Rattle.words.specs.Outcome.{Outcome, accepted, next}
-use Rattle.words.proofs.Outcomes.{Went, went, unrefused}
+use Rattle.words.specs.Outcome.{accepted}
+use Rattle.words.proofs.Outcomes.{unrefused}
+use Rattle.words.proofs.EachLaws.{both}
 use Rattle.draws.specs.declared.weighted.Place.{Place}
 use Rattle.draws.specs.Weighted.{weighted}
 use Rattle.draws.proofs.WeightedLaws.{placed}
@@ -24,13 +26,10 @@ pub iid-placed : (k : ℕ) (weights ws : List ℕ) {places : List Place} {left :
 iid-placed zero weights ws {places} h e =
     let q : _≡_ {A = List Place} [] places = cc in
     rw (← q) (record { size = refl; placed = tt })
-iid-placed (suc k) weights ws {places} {left} h e =
-    let f : Place → List ℕ → Outcome (List Place) = λ p rest. next (iid k weights rest) (λ ps rest. accepted (p ∷ ps) rest) in
-    let g : Went (weighted weights ws) f places left = went _ _ e in
-    let b : Went (iid k weights (g .words)) (λ ps rest. accepted (g .value ∷ ps) rest) places left = went _ _ (g .then) in
-    let j = iid-placed k weights (g .words) h (b .first) in
-    let q : g .value ∷ b .value ≡ places = cc in
-    rw (← q) (record { size = ap suc (j .size); placed = (placed weights ws h (g .first), j .placed) })
+iid-placed (suc k) weights ws h e =
+    let b = both weighted weights (replicate k weights) ws e in
+    let j = iid-placed k weights (b .words) h (b .then) in
+    rw (b .is) (record { size = ap suc (j .size); placed = (placed weights ws h (b .first), j .placed) })
 
 pub quorum-placed : QuorumPlaced
 quorum-placed stakes k room ws places left e =

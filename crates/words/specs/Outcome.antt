@@ -16,6 +16,15 @@ abbrev pub next : {A B : Type 0} → Outcome A → (A → List ℕ → Outcome B
 next (refused n) f = refused n
 next (accepted a ws) f = f a ws
 
+-- one call for each element, in order
+abbrev pub each : {A B : Type 0} → (A → List ℕ → Outcome B) → List A → List ℕ → Outcome (List B)
+each f [] ws = accepted [] ws
+each f (x ∷ xs) ws = next (f x ws) (λ b left. next (each f xs left) (λ bs rest. accepted (b ∷ bs) rest))
+
+-- what an accepted call gives, taken through g
+abbrev pub giving : {A B : Type 0} → (A → B) → Outcome A → Outcome B
+giving g o = next o (λ a left. accepted (g a) left)
+
 -- the words that are left after a call whose one refusal is that no word is left
 abbrev pub leftAfter : {A : Type 0} → Outcome A → List ℕ
 leftAfter (refused n) = []

@@ -45,7 +45,7 @@ loop-again c =
     let d = p .before .before .draw-weighted in
     let l = p .before .before .before .before .before in
     let list = now (l .before .before .before .before .before .args .list) in
-    drawing-next (l .loop .inv) (omega (arith, l .loop .inv .long)) (p .place .given .0 .0) _
+    drawing-next _ (l .loop .inv) (omega (arith, l .loop .inv .long)) (p .place .given .0 .0) _
     (sym (ap (λ (r : Weighted). weightedSays r (stream list (d .last .1 .0))) (p .place .given .1)) ∙ d .ensures .0)
 
 enum-told : tie.Need-enum-told Inv-loop μ-loop
@@ -59,7 +59,7 @@ returns c =
     let d = c .before .before .draw-weighted in
     let l = c .before .before .before .before .before in
     let list = now (l .before .before .before .before .before .args .list) in
-    drawing-dry (l .loop .inv) (omega (arith, l .loop .inv .long))
+    drawing-dry _ (l .loop .inv) (omega (arith, l .loop .inv .long))
     (sym (ap (λ (r : Weighted). weightedSays r (stream list (d .last .1 .0))) (c .enum-told .given .1)) ∙ d .ensures .0)
 
 same-length-2 : tie.Need-same-length-2 Inv-loop μ-loop
@@ -68,7 +68,7 @@ same-length-2 c = search needs
 returns-2 : tie.Need-returns-2 Inv-loop μ-loop
 returns-2 c =
     let l = c .before in
-    drawing-all (l .loop .inv) (omega (arith, l .loop .inv .long))
+    drawing-all _ (l .loop .inv) (omega (arith, l .loop .inv .long))
 
 pub draw-seats-spec : {M : Type 1} → statement M
 draw-seats-spec =
