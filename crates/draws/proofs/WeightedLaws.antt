@@ -6,10 +6,10 @@ use mathlib.Core.List.{List, [], _∷_, _++_}
 use native.Mathlib.Omega.{arith}
 use lib.Dec.{ltb}
 use lib.ListN.{length, getD, take, length-append}
-use lib.Seq.{take-length, take-at}
+use lib.Seq.{take-length, take-at, take-append-le, take-append-add}
 use borrow.Author.Tests.{ltb-true, ltb-false, lt-ltb, le-ltb}
 use Rattle.laws.specs.Sums.{total, runningFrom, runningSums}
-use Rattle.laws.proofs.Sums.{total-take-suc, length-running, running-at, running-rises}
+use Rattle.laws.proofs.Sums.{total-append, total-take-suc, total-take-mono, length-running, running-at, running-rises}
 use Rattle.words.specs.Outcome.{accepted}
 use Rattle.words.proofs.Outcomes.{Went, went, NoLonger, accepted-no-longer, next-no-longer}
 use Rattle.draws.specs.declared.weighted.Place.{Place}
@@ -47,6 +47,15 @@ chosen-from b (x ∷ xs) v l h = go (ltb v (b + x)) refl (chosen-from (b + x) xs
         let r = ih (ltb-false v (b + x) e) (omega arith) in
         record { within = omega (arith, r .within); reached = omega (arith, r .reached); exceeded = omega (arith, r .exceeded) }
 
+-- and that there is no other such place
+pub chosen-at : (weights : List ℕ) (v at : ℕ) → Chosen 0 weights v at → chosen weights v ≡ at
+chosen-at weights v at c =
+    sym
+    (first-above-is (runningSums weights) v at
+    (omega (arith, length-running 0 weights, c .within))
+    (λ k l. omega (arith, running-at 0 weights k (omega (arith, c .within)), total-take-mono weights (suc k) at l, c .reached))
+    (λ l. omega (arith, running-at 0 weights at (c .within), c .exceeded)))
+
 module _ (weights : List ℕ) (v : ℕ) (h : v < total weights) where
   pub chosen-is : Chosen 0 weights v (chosen weights v)
   chosen-is = chosen-from 0 weights v (omega arith) (omega arith)
@@ -66,6 +75,28 @@ module _ (weights : List ℕ) (v : ℕ) (h : v < total weights) where
   sum-before =
       let c = chosen-is in
       omega (arith, running-at 0 weights (chosen weights v) (c .within), total-take-suc weights (chosen weights v) (c .within))
+
+-- a value below the sum of the first weights chooses among these
+pub chosen-before : (xs ys : List ℕ) (v : ℕ) → v < total xs → chosen (xs ++ ys) v ≡ chosen xs v
+chosen-before xs ys v h = let c = chosen-is xs v h in chosen-at (xs ++ ys) v (chosen xs v) (record {
+  within = omega (arith, c .within, length-append xs ys);
+  reached = omega (arith, c .reached, ap total (take-append-le (chosen xs v) xs ys (omega (arith, c .within))));
+  exceeded = omega (arith, c .exceeded, ap total (take-append-le (suc (chosen xs v)) xs ys (c .within)));
+})
+
+-- one past it chooses among the others
+pub chosen-past : (xs ys : List ℕ) (v : ℕ) → v < total ys → chosen (xs ++ ys) (total xs + v) ≡ length xs + chosen ys v
+chosen-past xs ys v h = let c = chosen-is ys v h in chosen-at (xs ++ ys) (total xs + v) (length xs + chosen ys v) (record {
+  within = omega (arith, c .within, length-append xs ys);
+  reached = omega (arith, c .reached, front-total (chosen ys v));
+  exceeded = omega (arith, c .exceeded, front-total (suc (chosen ys v)), ap (λ (n : ℕ). total (take n (xs ++ ys))) more);
+})
+  where
+    front-total : (n : ℕ) → total (take (length xs + n) (xs ++ ys)) ≡ total xs + total (take n ys)
+    front-total n = ap total (take-append-add xs ys n) ∙ total-append xs (take n ys)
+
+    more : suc (length xs + chosen ys v) ≡ length xs + suc (chosen ys v)
+    more = omega arith
 
 -- the front of a buffer that the running sums were written to
 pub sums-front : (weights held : List ℕ) → take (length weights) (runningSums weights ++ held) ≡ runningSums weights

@@ -1,10 +1,21 @@
 -- Laws of sums and running sums.
 use Prim.Native.Nat.{ℕ, zero, suc, _+_, _^_, _≤_, _<_}
 use mathlib.Core.Path.{_≡_, refl, ap}
-use mathlib.Core.List.{List, [], _∷_}
+use mathlib.Core.List.{List, [], _∷_, _++_}
 use native.Mathlib.Omega.{arith}
 use lib.ListN.{length, getD, take}
 use Rattle.laws.specs.Sums.{total, runningFrom}
+
+-- the sum of two lists together
+pub total-append : (xs ys : List ℕ) → total (xs ++ ys) ≡ total xs + total ys
+total-append [] ys = omega arith
+total-append (x ∷ xs) ys = omega (arith, total-append xs ys)
+
+-- each number is at most the sum
+pub total-at : (xs : List ℕ) (i : ℕ) → getD xs i 0 ≤ total xs
+total-at [] i = omega arith
+total-at (x ∷ xs) zero = omega arith
+total-at (x ∷ xs) (suc i) = omega (arith, total-at xs i)
 
 -- one number more
 pub total-take-suc : (xs : List ℕ) (i : ℕ) → i < length xs → total (take (suc i) xs) ≡ total (take i xs) + getD xs i 0

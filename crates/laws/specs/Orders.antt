@@ -18,3 +18,7 @@ pub record Permutation {A : Type 0} (xs ys : List A) : Type 0 where
 -- no element stands at two places
 abbrev pub Distinct : {A : Type 0} → A → List A → Type 0
 Distinct d xs = (p q : ℕ) → p < length xs → q < length xs → getD xs p d ≡ getD xs q d → p ≡ q
+
+-- every number is below m
+abbrev pub AllBelow : ℕ → List ℕ → Type 0
+AllBelow m xs = (p : ℕ) → p < length xs → getD xs p 0 < m

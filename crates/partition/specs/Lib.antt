@@ -1,0 +1,4 @@
+pub mod Fill
+pub mod Seats
+pub mod Values
+pub mod Answers

@@ -1,0 +1,66 @@
+-- "Partition of total S into b bins".
+use Prim.Native.Nat.{ℕ, zero, suc, _+_, _-_, _/_}
+use mathlib.Core.List.{List, [], _∷_, map}
+use lib.ListN.{length, getD}
+use Rattle.words.specs.Outcome.{Outcome, accepted, next, each, giving}
+use Rattle.draws.specs.declared.weighted.Place.{Place}
+use Rattle.draws.specs.Weighted.{weighted, ids}
+use Rattle.draws.specs.Shuffle.{shuffle}
+use Rattle.partition.specs.Fill.{Share, Piece, fill, pieces, binsOf, validatorsOf, stakesOf}
+
+-- "capacity ceil(S / b)"
+abbrev pub capacity : ℕ → ℕ → ℕ
+capacity S b = (S + (b - 1)) / b
+
+-- n ids from i on
+abbrev pub idsFrom : ℕ → ℕ → List ℕ
+idsFrom i zero = []
+idsFrom i (suc n) = i ∷ idsFrom (i + 1) n
+
+-- weights in an order of their validators
+abbrev pub inOrder : List ℕ → List ℕ → List Share
+inOrder weights order = map (λ i. record { validator = i; stake = getD weights i 0 }) order
+
+-- the stakes of a bin's shares
+abbrev pub shareStakes : List Share → List ℕ
+shareStakes xs = map (λ x. x .stake) xs
+
+-- the validator whose share stands at a place
+abbrev pub holder : List Share → ℕ → ℕ
+holder xs at = getD (map (λ x. x .validator) xs) at 0
+
+-- the validator at a place of a bin, with the remainder of the draw
+abbrev pub seatOf : List Share → Place → Place
+seatOf bin p = record { at = holder bin (p .at); remainder = p .remainder }
+
+-- "One weighted draw from each bin"
+abbrev pub seat : List Share → List ℕ → Outcome Place
+seat bin ws = giving (seatOf bin) (weighted (shareStakes bin) ws)
+
+-- the seats drawn, by validator; the pieces in fill order; the words of the first list that are left
+pub record Parted : Type 0 where
+  pub drawn : List Place
+  pub pieces : List Piece
+  pub firstLeft : List ℕ
+
+-- what stands in the lent buffers: the ids of the seats, and the columns of the pieces
+abbrev pub seatIds : Parted → List ℕ
+seatIds p = ids (p .drawn)
+
+abbrev pub pieceBins : Parted → List ℕ
+pieceBins p = binsOf (p .pieces)
+
+abbrev pub pieceValidators : Parted → List ℕ
+pieceValidators p = validatorsOf (p .pieces)
+
+abbrev pub pieceStakes : Parted → List ℕ
+pieceStakes p = stakesOf (p .pieces)
+
+-- "the whole list is shuffled by the first, then the bins are made and the seats drawn by the second", "in bin order"; "with 0 bins
+-- nothing is shuffled and no word read"
+abbrev pub overBins : List ℕ → ℕ → ℕ → List ℕ → List ℕ → Outcome Parted
+overBins weights cap zero first second = accepted (record { drawn = []; pieces = []; firstLeft = first }) second
+overBins weights cap (suc b) first second =
+    next (shuffle (idsFrom 0 (length weights)) first) (λ order firstLeft.
+    let bins = fill cap (suc b) (inOrder weights order) in
+    giving (λ drawn. record { drawn = drawn; pieces = pieces 0 bins; firstLeft = firstLeft }) (each seat bins second))
