@@ -5,3 +5,4 @@ pub mod ChoiceLaws
 pub mod OrderLaws
 pub mod ReadLaws
 pub mod OverLaws
+pub mod CallLaws

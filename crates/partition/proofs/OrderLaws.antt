@@ -58,7 +58,6 @@ module _ (n : ℕ) (order : List ℕ) (p : Permutation (idsFrom 0 n) order) wher
   pub order-long : length order ≡ n
   order-long = p .long ∙ ids-long 0 n
 
-
 -- ---- sums over the ids
 
 pub ids-total : (weights : List ℕ) (i n : ℕ) → i + n ≡ length weights → sumOf (λ x. getD weights x 0) (idsFrom i n) ≡ total (drop i weights)

@@ -1,7 +1,8 @@
 -- Laws of the seats over bins, by what the shuffle and the draws of the values give.
 use Prim.Native.Nat.{ℕ, zero, suc, _+_, _-_, _*_, _≤_, _<_}
 use mathlib.Core.Path.{_≡_, refl, sym, ap, _∙_}
-use mathlib.Core.List.{List, _++_, map}
+use mathlib.Core.List.{List, [], _++_, map}
+use native.Mathlib.Nat.{sub-self}
 use native.Mathlib.Omega.{arith}
 use lib.ListN.{length, getD, drop, length-map}
 use Rattle.laws.specs.Sums.{total}
@@ -15,6 +16,7 @@ use Rattle.partition.specs.Fill.{Share, Piece, fill, pieces, binsOf, val
 use Rattle.partition.specs.Seats.{idsFrom, inOrder, seat, Parted, overBins, seatIds, pieceBins, pieceValidators, pieceStakes}
 use Rattle.partition.specs.Values.{binTotal, binSums, Low, choices, Fillable}
 use Rattle.partition.specs.Answers.{partitionAnswer, Holds}
+use Rattle.partition.specs.declared.answers.Partition.{Partition}
 use Rattle.partition.specs.declared.answers.PartitionAnswer.{PartitionAnswer}
 use Rattle.partition.specs.declared.answers.PartitionAnswer.the-variants.{Accepted, Refused}
 use Rattle.partition.proofs.ChoiceLaws.{seats-by-values, fill-totals}
@@ -164,3 +166,29 @@ module _ (weights : List ℕ) (sum cap b n : ℕ) (f : Fillable weights sum cap 
           let o = over-accepted weights sum cap b f first second order (g .left) order-is values (h .left) (h .is) in
           says-accepted first second (overBins weights cap b first second) _ (h .left) o r₁ r₂ count seats bs₀ vs₀ ss₀ bs vs ss (g .read) (h .read)
           (rw k at c) (rw k at (e .0)) (rw k at (e .1 .0)) (rw k at (e .1 .1 .0)) (rw k at (e .1 .1 .1))
+
+-- ---- the same with the seats as they stand in a lent buffer
+
+abbrev pub Given : (first second : List ℕ) (o : Outcome Parted) (r : PartitionAnswer) (seats₀ bs₀ vs₀ ss₀ seats bs vs ss : List ℕ) → Type 0
+Given first second o r seats₀ bs₀ vs₀ ss₀ seats bs vs ss =
+    (r ≡ partitionAnswer first second o)
+    × ((seats ≡ bufferAfter o seatIds seats₀) × ((bs ≡ bufferAfter o pieceBins bs₀) × ((vs ≡ bufferAfter o pieceValidators vs₀) × (ss ≡ bufferAfter o pieceStakes ss₀))))
+
+-- the seats of an accepted call are stored, those of a refused one are not
+pub stored-accepted : (first second : List ℕ) (o : Outcome Parted) (p : Partition) (drawn seats₀ : List ℕ) → Accepted p ≡ partitionAnswer first second o →
+    Holds (giving seatIds o) drawn → drawn ++ drop (length drawn) seats₀ ≡ bufferAfter o seatIds seats₀
+stored-accepted first second (refused n) p drawn seats₀ e h = absurd (let z : _≡_ {A = ℕ} 0 1 = cc in omega arith)
+stored-accepted first second (accepted q left) p drawn seats₀ e h = rw h
+
+pub stored-refused : (first second : List ℕ) (o : Outcome Parted) (n : ℕ) (seats₀ : List ℕ) → Refused n ≡ partitionAnswer first second o → seats₀ ≡ bufferAfter o seatIds seats₀
+stored-refused first second (refused m) n seats₀ e = refl
+stored-refused first second (accepted q left) n seats₀ e = absurd (let z : _≡_ {A = ℕ} 0 1 = cc in omega arith)
+
+-- a call that is refused leaves all buffers as they were
+pub given-refused : (first second : List ℕ) (o : Outcome Parted) (n : ℕ) → o ≡ refused n → (seats bs vs ss : List ℕ) → Given first second o (Refused n) seats bs vs ss seats bs vs ss
+given-refused first second o n e seats bs vs ss = rw e (refl, (refl, (refl, (refl, refl))))
+
+-- without bins nothing is read and nothing stored
+pub given-none : (first second : List ℕ) (o : Outcome Parted) → o ≡ accepted (record { drawn = []; pieces = []; firstLeft = first }) second → (seats bs vs ss : List ℕ) →
+    Given first second o (Accepted (record { pieces = 0; «first_words_read» = 0; «second_words_read» = 0 })) seats bs vs ss seats bs vs ss
+given-none first second o e seats bs vs ss = rw (e, sub-self (length first), sub-self (length second)) (refl, (refl, (refl, (refl, refl))))

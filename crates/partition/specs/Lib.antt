@@ -1,4 +1,5 @@
 pub mod Fill
 pub mod Seats
 pub mod Values
+pub mod Calls
 pub mod Answers

@@ -43,3 +43,14 @@ pub record Fillable (weights : List ℕ) (sum cap b : ℕ) : Type 0 where
   pub some : 0 < b
   pub room : sum ≤ b * cap
   pub full : (b - 1) * cap < sum
+
+-- what holds where a call into b bins is turned down neither by its sizes nor by the sum
+pub record Admitted (stakes : List ℕ) (sum b seats bins validators pieceStakes : ℕ) : Type 0 where
+  pub long : length stakes ≤ 4096
+  pub few : b ≤ 1024
+  pub room : b ≤ seats
+  pub bins-room : 0 < b → length stakes + b ≤ bins
+  pub validators-room : 0 < b → length stakes + b ≤ validators
+  pub stakes-room : 0 < b → length stakes + b ≤ pieceStakes
+  pub is : sum ≡ total stakes
+  pub some : 0 < sum

@@ -69,12 +69,28 @@ pub fn fill(
         let weight = weights[validator as usize];
         let stake = weight - used;
         if stake <= room {
-            count = put_piece(bin, validator, stake, count, piece_bins, piece_validators, piece_stakes);
+            count = put_piece(
+                bin,
+                validator,
+                stake,
+                count,
+                piece_bins,
+                piece_validators,
+                piece_stakes,
+            );
             room -= stake;
             used = 0;
             at += 1;
         } else {
-            count = put_piece(bin, validator, room, count, piece_bins, piece_validators, piece_stakes);
+            count = put_piece(
+                bin,
+                validator,
+                room,
+                count,
+                piece_bins,
+                piece_validators,
+                piece_stakes,
+            );
             used = weight - (stake - room);
             room = capacity;
             bin += 1;

@@ -153,8 +153,21 @@ fn fill_and_choose(
     ensures { λ r. ⌜ now («piece_stakes» .exit) ≡ stakesOf (pieces 0 (fill capacity (length (now (seats .entry))) (inOrder (now (weights .entry)) (now (order .entry))))) ++ drop r (now («piece_stakes» .entry)) ⌝ }
 {
     let bins = seats.len();
-    let pieces = fill::fill(weights, order, capacity, bins, piece_bins, piece_validators, piece_stakes);
-    choose_seats(&piece_validators[..pieces], &piece_stakes[..pieces], capacity, seats);
+    let pieces = fill::fill(
+        weights,
+        order,
+        capacity,
+        bins,
+        piece_bins,
+        piece_validators,
+        piece_stakes,
+    );
+    choose_seats(
+        &piece_validators[..pieces],
+        &piece_stakes[..pieces],
+        capacity,
+        seats,
+    );
     pieces
 }
 
@@ -186,9 +199,23 @@ pub fn draw_bins(
     ensures { λ r. ⌜ now («piece_stakes» .exit) ≡ bufferAfter (overBins (now (weights .entry)) capacity (length (now (seats .entry))) (drop «first_cursor» (now (first .entry))) (drop «second_cursor» (now (second .entry)))) pieceStakes (now («piece_stakes» .entry)) ⌝ }
 {
     match shuffle_ids(first, first_cursor, order) {
-        Read::Words(first_words_read) => match draw_by(second, second_cursor, capacity, sum, seats) {
+        Read::Words(first_words_read) => match draw_by(
+            second,
+            second_cursor,
+            capacity,
+            sum,
+            seats,
+        ) {
             Read::Words(second_words_read) => PartitionAnswer::Accepted(Partition {
-                pieces: fill_and_choose(weights, order, capacity, seats, piece_bins, piece_validators, piece_stakes),
+                pieces: fill_and_choose(
+                    weights,
+                    order,
+                    capacity,
+                    seats,
+                    piece_bins,
+                    piece_validators,
+                    piece_stakes,
+                ),
                 first_words_read,
                 second_words_read,
             }),

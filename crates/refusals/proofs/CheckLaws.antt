@@ -13,6 +13,8 @@ use borrow.Author.Tests.{ltb-true, ltb-false, leb-false, lt-ltb, le-ltb, le-leb,
 use Rattle.laws.specs.Sums.{total}
 use Rattle.refusals.specs.declared.Refusal.{Refusal}
 use Rattle.refusals.specs.declared.Refusal.the-variants.{None, Number}
+use Rattle.refusals.specs.declared.Summed.the-variants.{Sum, Refused}
+use Rattle.refusals.specs.Answers.{summedBy}
 use Rattle.refusals.specs.Refusals.{Check, lowest, listLength, sumPast, totalZero, anyAbove, countLimit}
 
 -- where no check applies, the first does not, nor any after it
@@ -26,6 +28,20 @@ passed c cs e = go (c .applies) refl e
     go : (b : Bool) → c .applies ≡ b → cond b (Number (c .number)) (lowest cs) ≡ None → Passed c cs
     go true t e = absurd (let z : _≡_ {A = ℕ} 0 1 = cc in omega arith)
     go false t e = record { head = t; rest = e }
+
+-- checks after others: where none of the first applies they decide, else the first do
+pub after-none : (cs ds : List Check) → lowest cs ≡ None → lowest (cs ++ ds) ≡ lowest ds
+after-none [] ds e = refl
+after-none (c ∷ cs) ds e = let p = passed c cs e in rw (p .head) (after-none cs ds (p .rest))
+
+pub after-number : (cs ds : List Check) (n : ℕ) → lowest cs ≡ Number n → lowest (cs ++ ds) ≡ Number n
+after-number [] ds n e = absurd (let z : _≡_ {A = ℕ} 0 1 = cc in omega arith)
+after-number (c ∷ cs) ds n e = go (c .applies) e (after-number cs ds n)
+  where
+    go : (b : Bool) → cond b (Number (c .number)) (lowest cs) ≡ Number n → (lowest cs ≡ Number n → lowest (cs ++ ds) ≡ Number n) →
+        cond b (Number (c .number)) (lowest (cs ++ ds)) ≡ Number n
+    go true e ih = e
+    go false e ih = ih e
 
 -- a list that is neither too long nor empty
 pub record Listed (n : ℕ) : Type 0 where
@@ -109,20 +125,14 @@ sum-zero stakes e = rw (e)
 pub sum-fine : (stakes : List ℕ) → total stakes < 2 ^ 64 → (total stakes ≡ 0 → ⊥) → sumRefusal stakes ≡ None
 sum-fine stakes h e = rw (lt-leb (2 ^ 64) (total stakes) h, ne-eqb (total stakes) 0 e)
 
--- further checks come after the sum's
-pub after-sum-none : (stakes : List ℕ) (cs : List Check) → sumRefusal stakes ≡ None → lowest (sumPast stakes ∷ totalZero stakes ∷ cs) ≡ lowest cs
-after-sum-none stakes cs e =
-    let p = passed (sumPast stakes) (totalZero stakes ∷ []) e in
-    let q = passed (totalZero stakes) [] (p .rest) in
-    rw (p .head, q .head)
+-- what the answer of `check_sum` tells
+pub sum-got : (r : Refusal) (t sum : ℕ) → Sum sum ≡ summedBy r t → (r ≡ None) × (sum ≡ t)
+sum-got None t sum e = (refl, cc)
+sum-got (Number n) t sum e = absurd (let z : _≡_ {A = ℕ} 0 1 = cc in omega arith)
 
-pub after-sum-number : (stakes : List ℕ) (cs : List Check) (n : ℕ) → sumRefusal stakes ≡ Number n → lowest (sumPast stakes ∷ totalZero stakes ∷ cs) ≡ Number n
-after-sum-number stakes cs n e = go (sumPast stakes .applies) refl (totalZero stakes .applies) refl
-  where
-    go : (a : Bool) → sumPast stakes .applies ≡ a → (b : Bool) → totalZero stakes .applies ≡ b → lowest (sumPast stakes ∷ totalZero stakes ∷ cs) ≡ Number n
-    go true s b t = rw s (rw s at e)
-    go false s true t = rw (s, t) (rw (s, t) at e)
-    go false s false t = absurd (let f : None ≡ Number n = rw (s, t) at e in let z : _≡_ {A = ℕ} 0 1 = cc in omega arith)
+pub number-got : (r : Refusal) (t n : ℕ) → Refused n ≡ summedBy r t → r ≡ Number n
+number-got None t n e = absurd (let z : _≡_ {A = ℕ} 0 1 = cc in omega arith)
+number-got (Number m) t n e = let z : n ≡ m = cc in rw z
 
 -- what holds of the sum where neither applies
 pub record Summed (stakes : List ℕ) : Type 0 where

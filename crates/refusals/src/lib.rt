@@ -5,12 +5,20 @@ ghost use Prim.Native.Nat.{_*_, _-_, _≤_, _<_, _^_};
 ghost use mathlib.Core.Path.{_≡_};
 ghost use mathlib.Core.List.{[], _∷_};
 ghost use lib.ListN.{length};
+ghost use Rattle.laws.specs.Sums.{total};
 ghost use Rattle.refusals.specs.Refusals.{lowest, listLength, size, committeeSize, emptyBin, triesAllowed, maxSamples, sumPast, totalZero, countLimit};
+ghost use Rattle.refusals.specs.Answers.{summedBy};
 
 // Whether a call is turned down, and by which number.
 pub enum Refusal {
     None,
     Number(u64),
+}
+
+// The sum of stakes, where neither 8 nor 9 applies, or the number that does.
+pub enum Summed {
+    Sum(u64),
+    Refused(u64),
 }
 
 pub const LIST_LENGTH: u64 = 1;
@@ -71,18 +79,29 @@ pub fn bad_max_samples(max_samples: f64) -> bool
 }
 
 // 8 and 9.
-pub fn bad_sum(stakes: &[u64]) -> Refusal
-    ensures { λ r. ⌜ r ≡ lowest (sumPast (now (stakes .entry)) ∷ totalZero (now (stakes .entry)) ∷ []) ⌝ }
+pub fn check_sum(stakes: &[u64]) -> Summed
+    ensures { λ r. ⌜ r ≡ summedBy (lowest (sumPast (now (stakes .entry)) ∷ totalZero (now (stakes .entry)) ∷ [])) (total (now (stakes .entry))) ⌝ }
 {
     match Stake::sum(stakes) {
         CheckedStake::Some(sum) => {
-            if sum.inner() == 0 {
-                Refusal::Number(TOTAL_ZERO)
+            let total = sum.inner();
+            if total == 0 {
+                Summed::Refused(TOTAL_ZERO)
             } else {
-                Refusal::None
+                Summed::Sum(total)
             }
         }
-        CheckedStake::None => Refusal::Number(SUM_PAST),
+        CheckedStake::None => Summed::Refused(SUM_PAST),
+    }
+}
+
+// Likewise, where the sum is not needed.
+pub fn bad_sum(stakes: &[u64]) -> Refusal
+    ensures { λ r. ⌜ r ≡ lowest (sumPast (now (stakes .entry)) ∷ totalZero (now (stakes .entry)) ∷ []) ⌝ }
+{
+    match check_sum(stakes) {
+        Summed::Sum(_) => Refusal::None,
+        Summed::Refused(n) => Refusal::Number(n),
     }
 }
 

@@ -33,7 +33,7 @@ shared-slice-read-validator : tie.Need-shared-slice-read-validator Inv-loop μ-l
 shared-slice-read-validator c = search needs
 
 mul-weight : tie.Need-mul-weight Inv-loop μ-loop
-mul-weight c = 
+mul-weight c =
     let s = c .before .before .before .before .before .before .before .before in
     let v = s .pre .1 .0 (c .before .before .loop .at) (c .before .loop-test .taken) in
     search needs
@@ -60,7 +60,7 @@ loop-less : tie.Need-loop-less Inv-loop μ-loop
 loop-less c = search needs
 
 loop-again : tie.Need-loop-again Inv-loop μ-loop
-loop-again c = 
+loop-again c =
     let p = c .before .before .before .before .before .before in
     let i = p .before .before .before .before in
     let l = i .before .before .before .before in
@@ -89,7 +89,7 @@ loop-less-2 : tie.Need-loop-less-2 Inv-loop μ-loop
 loop-less-2 c = search needs
 
 loop-again-2 : tie.Need-loop-again-2 Inv-loop μ-loop
-loop-again-2 c = 
+loop-again-2 c =
     let p = c .before .before .before .before .before .before in
     let i = p .before .before .before .before in
     let l = i .before .before .before .before in

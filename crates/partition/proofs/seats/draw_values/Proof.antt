@@ -42,7 +42,7 @@ loop-holds : tie.Need-loop-holds Inv-loop μ-loop
 loop-holds c = valuing-none _ _ _ _
 
 draw-below-requires : tie.Need-draw-below-requires Inv-loop μ-loop
-draw-below-requires c κs = 
+draw-below-requires c κs =
     let j = c .before in
     let l = j .before .before in
     let s = l .before .before .before in
@@ -69,7 +69,7 @@ loop-less : tie.Need-loop-less Inv-loop μ-loop
 loop-less c = search needs
 
 loop-again : tie.Need-loop-again Inv-loop μ-loop
-loop-again c = 
+loop-again c =
     let v = c .before .before in
     let d = v .before .before in
     let j = d .before .before in
@@ -83,7 +83,7 @@ same-length : tie.Need-same-length Inv-loop μ-loop
 same-length c = search needs
 
 returns : tie.Need-returns Inv-loop μ-loop
-returns c = 
+returns c =
     let d = c .before .before in
     let j = d .before .before in
     let l = j .before .before in
