@@ -446,6 +446,56 @@ def lowest_cases(_rng):
         yield from decaying_pair({"stakes": stakes, **DECAYING, "counts": [MAX_COUNT, 0]}, 1, [])
 
 
+def bin_sampler_cases(stakes, k, order, seats):
+    """A partition and both committees of FA1 over the same list, by the words of the shuffle and
+    of the seats."""
+    yield case("partition", stakes=stakes, bins=k, words=order, words2=seats)
+    yield case("fa1_bins", stakes=stakes, k=k, words=order, words2=seats)
+    yield case("fa1_draws", stakes=stakes, k=k, words=seats)
+
+
+def bin_value_cases(_rng):
+    """Short and full last bins, ends of stakes inside and at the end of bins; small values."""
+    for stakes, k in (([3, 0, 4], 2), ([2, 2, 1], 3), ([3, 3, 0], 2), ([1, 9, 2], 4), ([5, 5], 5),
+                      ([3, 3, 3, 2], 3), ([3] * 4, 3), ([0, 3, 3, 3, 3, 0], 3),
+                      ([2, 1, 2, 0, 2], 3), ([4, 1, 4, 4, 4], 4)):
+        # Word i swaps place i with itself.
+        for order in (list(range(1, len(stakes))), [0] * len(stakes)):
+            for value in range(5):
+                yield from bin_sampler_cases(stakes, k, order, [value] * k)
+
+
+def bin_skip_cases(_rng):
+    """Words that are skipped: below 3 the highest word, below 2^63 + 1 every word from there on."""
+    for order in ([0, TOP, 1], [TOP, TOP, TOP, 0], [TOP, TOP, TOP], [0]):
+        yield from bin_sampler_cases([3, 0, 4], 2, order, [5, 1])
+    for seats in ([HALF + 1, 5], [TOP, HALF + 1, HALF], [HALF], [TOP], [TOP, TOP, TOP]):
+        yield from bin_sampler_cases([HALF, 0, 1], 1, [0, 1], seats)
+
+
+def rounded_cases(_rng):
+    """Totals about 2^54 and 2^64 of which f64 finds a seat too many or too few."""
+    for stakes, k in (([2**53, 2**53 + 1], 4), ([7205759403792795, 10808639105689192], 5),
+                      ([3 * 2**62 - 1, 2**62], 4), ([TOP // 51 * 20, TOP // 51 * 31], 51)):
+        yield from bin_sampler_cases(stakes, k, spread(len(stakes)), spread(k))
+
+
+def bin_scratch_cases(_rng):
+    """Lengths and sizes at which a sampler over bins takes more scratch space; in few digits."""
+    def small(need):
+        return [i * i % 13 for i in range(need)]
+
+    def sparse(n):
+        return [1 + i % 5 if i % 16 == 0 else 0 for i in range(n)]
+
+    lists = [(sparse(n), 3) for n in (64, 65, 1_024, 1_025)]
+    for k in (64, 65):
+        lists += [([1_559, 0, 2_601], k), ([1] * 2 * k, k)]
+    lists += [([9_469] + sparse(4_095), 1_024)]
+    for stakes, k in lists:
+        yield from bin_sampler_cases(stakes, k, small(len(stakes)), small(k))
+
+
 def view_cases(rng):
     for fanout in FANOUTS:
         for n in (1, 2, 17, 40):
@@ -457,7 +507,7 @@ def view_cases(rng):
 LIMITS = (length_cases, size_cases, sum_cases, worked_cases, whole_seat_cases, no_seat_cases,
           dry_cases, decaying_cases, last_try_cases, later_try_cases, rejected_once_cases,
           dry_try_cases, long_list_cases, scratch_cases, zero_stake_cases, skip_cases, lowest_cases,
-          view_cases)
+          bin_value_cases, bin_skip_cases, rounded_cases, bin_scratch_cases, view_cases)
 
 
 def cases(n):

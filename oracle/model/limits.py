@@ -5,13 +5,22 @@ lists as they are stored.
 """
 
 import math
+from collections import Counter
 from typing import NamedTuple
 
-from model import MAX_COUNT, MAX_LIST, MAX_SEATS, MAX_TRIES, WORD_END, bits_of
+from model import (MAX_COUNT, MAX_LIST, MAX_SEATS, MAX_TRIES, WORD_END, Refused, Words, bits_of,
+                   fa1_fixed, list_shuffle, pieces_needed)
 
 TOP = WORD_END - 1
+HALF = 2**63
+PIECE_ROOMS = ("room_bins", "room_validators", "room_stakes")
 ACCEPTED_MAX_SAMPLES = (1.0, 1.5, 2.0, 2.5, 5e-324, math.inf)
 REFUSED_MAX_SAMPLES = (math.nan, 0.0, -0.0, -1.0, -math.inf)
+
+
+def word_lists(given):
+    """What the names of a case's lists of words end with."""
+    return ("", "2") if "words2" in given else ("",)
 
 
 class Stored(NamedTuple):
@@ -39,24 +48,66 @@ class Stored(NamedTuple):
 
     @property
     def k(self):
-        return self.given.get("k", 1)
+        """The seats asked for; a partition has one for each bin."""
+        return self.given.get("k", self.given.get("bins", 1))
 
     @property
     def highest_count(self):
         return max(self.given["counts"][:self.n], default=0)
 
-    @property
-    def past_end(self):
-        return self.given["cursor"] > len(self.given["words"])
+    def past_end(self, which=""):
+        return self.given["cursor" + which] > len(self.given["words" + which])
 
-    @property
-    def words_there(self):
-        return max(len(self.given["words"]) - self.given["cursor"], 0)
+    def words(self, which=""):
+        """The words from the cursor on."""
+        return self.given["words" + which][self.given["cursor" + which]:]
 
     @property
     def draws(self):
-        """The words that an accepted call needs where none is skipped."""
-        return 2 * self.answer["tries"] if "tries" in self.answer else self.k
+        """The words that the tries or seats of an accepted call need where none is skipped."""
+        if "tries" in self.answer:
+            return 2 * self.answer["tries"]
+        return self.answer.get("further", self.k)
+
+    # ---- Over bins ----
+
+    @property
+    def swaps(self):
+        """The words that the shuffle of an accepted call needs where none is skipped."""
+        return self.n - 1 if self.draws > 0 else 0
+
+    @property
+    def order(self):
+        """The shuffled list; none where its words run out."""
+        try:
+            return list_shuffle(range(self.n), Words(self.words()))
+        except Refused:
+            return None
+
+    @property
+    def kept(self):
+        """What is left to draw from."""
+        return fa1_fixed(self.stakes, self.k)[2] if "further" in self.answer else self.stakes
+
+    @property
+    def drawn(self):
+        """The seats that are not fixed."""
+        return self.answer["seats"][self.k - self.draws:]
+
+    @property
+    def bins(self):
+        """The pieces of each bin."""
+        bins = [[] for _ in range(self.draws)]
+        for current, piece in zip(self.answer["piece_bins"], self.answer["piece_stakes"]):
+            bins[current].append(piece)
+        return bins
+
+    @property
+    def values(self):
+        """What is drawn of each bin, where no word is skipped."""
+        if self.answer["read2"] > self.draws:
+            return []
+        return [word % sum(pieces) for word, pieces in zip(self.words("2"), self.bins)]
 
 
 def refused(number, holds=lambda c: True):
@@ -75,42 +126,67 @@ def lengths(*numbers):
 
 LISTS = {
     "one validator": accepted(lambda c: c.n == 1),
-    "4,096 validators": accepted(lambda c: c.n == MAX_LIST),
     "no validator": refused(1, lambda c: c.n == 0),
-    "4,097 validators": refused(1, lambda c: c.n == MAX_LIST + 1),
     "a sum of 2^64 - 1": accepted(lambda c: c.total == TOP),
     "a sum of 2^64": refused(8, lambda c: c.total == TOP + 1),
     "no stake": refused(9),
     "a zero first": accepted(lambda c: c.stakes[0] == 0),
-    "a zero first, where 0 is drawn": accepted(
-        lambda c: c.stakes[0] == 0 and c.answer["read"] == c.draws > 0
-        and c.given["words"][c.given["cursor"]] % c.total == 0),
     "a zero last": accepted(lambda c: c.stakes[-1] == 0),
     "a zero in the middle": accepted(
         lambda c: 0 in c.stakes[1:-1] and c.stakes[0] > 0 and c.stakes[-1] > 0),
 }
 
+LONGEST_LISTS = {
+    "4,096 validators": accepted(lambda c: c.n == MAX_LIST),
+    "4,097 validators": refused(1, lambda c: c.n == MAX_LIST + 1),
+}
+
+ZERO_DRAWN = {
+    "nothing left of the first, where 0 is drawn": accepted(
+        lambda c: c.kept[0] == 0 and c.answer["read"] == c.draws > 0
+        and c.words()[0] % sum(c.kept) == 0),
+}
+
 # Lists for which a call takes more scratch space.
 SCRATCH = lengths(64, 65, 512, 513, 2_048, 2_049)
+BIN_SCRATCH = lengths(64, 65, 1_024, 1_025)
 
-WORDS = {
-    "a skipped word": accepted(lambda c: c.answer["read"] > c.draws),
-    "only skipped words": refused(
-        12, lambda c: c.words_there > 0 and set(c.given["words"][c.given["cursor"]:]) == {TOP}),
-    "no word": refused(12, lambda c: c.words_there == 0 and not c.past_end),
-    "no word from past the end": refused(12, lambda c: c.past_end),
-    "no word from 2^64 - 1 on": refused(12, lambda c: c.given["cursor"] == TOP),
-    "the last word read": accepted(lambda c: 0 < c.words_there == c.answer["read"]),
-    "a word left": accepted(lambda c: c.words_there > c.answer["read"] > 0),
-    **{f"words from {cursor} on": accepted(
-        lambda c, cursor=cursor: c.given["cursor"] == cursor and c.answer["read"] > 0)
-       for cursor in (0, 1, 3)},
+
+def word_limits(which="", needed=lambda c: c.draws, dry=lambda c: True):
+    """What a list of words must show. `needed` are the words that an accepted call needs of it
+    where none is skipped; `dry` says of a call refused by 12 that this list ran out."""
+    def read(c):
+        return c.answer["read" + which]
+
+    def ran_out(holds):
+        return refused(12, lambda c: dry(c) and holds(c))
+
+    limits = {
+        "a skipped word": accepted(lambda c: read(c) > needed(c)),
+        "only skipped words": ran_out(lambda c: set(c.words(which)) == {TOP}),
+        "no word": ran_out(lambda c: not c.words(which) and not c.past_end(which)),
+        "no word from past the end": ran_out(lambda c: c.past_end(which)),
+        "no word from 2^64 - 1 on": ran_out(lambda c: c.given["cursor" + which] == TOP),
+        "the last word read": accepted(lambda c: 0 < len(c.words(which)) == read(c)),
+        "a word left": accepted(lambda c: len(c.words(which)) > read(c) > 0),
+        **{f"words from {cursor} on": accepted(
+            lambda c, cursor=cursor: c.given["cursor" + which] == cursor and read(c) > 0)
+           for cursor in (0, 1, 3)},
+    }
+    return {f"second list: {name}" if which else name: holds for name, holds in limits.items()}
+
+
+WORDS = word_limits()
+
+NO_SEATS = {"0 seats": accepted(lambda c: c.k == 0)}
+
+MOST_SEATS = {
+    "4,096 validators, 1,024 seats": accepted(lambda c: c.n == MAX_LIST and c.k == MAX_SEATS),
 }
 
 COMMITTEES = {
-    **{f"{k} seats": accepted(lambda c, k=k: c.k == k) for k in (0, 1, 64, 65, MAX_SEATS)},
+    **{f"{k} seats": accepted(lambda c, k=k: c.k == k) for k in (1, 64, 65, MAX_SEATS)},
     "1,025 seats": refused(2, lambda c: c.k == MAX_SEATS + 1),
-    "4,096 validators, 1,024 seats": accepted(lambda c: c.n == MAX_LIST and c.k == MAX_SEATS),
     **{f"room for {more} seats more": accepted(
         lambda c, more=more: c.given["room"] == c.k + more > more) for more in range(4)},
     "a seat too little room": refused(7, lambda c: c.given["room"] == c.k - 1),
@@ -119,21 +195,22 @@ COMMITTEES = {
     "little room and no stake": refused(7, lambda c: c.given["room"] < c.k and c.total == 0),
     "little room and no validator": refused(1, lambda c: c.given["room"] < c.k),
     "little room and 1,025 seats": refused(2, lambda c: c.given["room"] < c.k),
-    "no word needed from past the end": accepted(lambda c: c.past_end),
+    "no word needed from past the end": accepted(lambda c: c.past_end()),
 }
 
 
-def words_end(reads, **fields):
+def words_end(reads, which="", **fields):
     """Words that end at every place of a call that reads so many, and with the last."""
     def is_call(c):
         return all(c.given[name][:len(value)] == value if name == "counts"
                    else c.given[name] == value for name, value in fields.items())
 
-    ends = {f"words end after {n} of {reads}": refused(
-        12, lambda c, n=n: is_call(c) and c.words_there == n and not c.past_end)
+    name = f"words{which} end after {{}} of {reads}".format
+    ends = {name(n): refused(
+        12, lambda c, n=n: is_call(c) and len(c.words(which)) == n and not c.past_end(which))
         for n in range(reads)}
-    return {**ends, f"words end after {reads} of {reads}": accepted(
-        lambda c: is_call(c) and c.answer["read"] == c.words_there == reads)}
+    return {**ends, name(reads): accepted(
+        lambda c: is_call(c) and c.answer["read" + which] == len(c.words(which)) == reads)}
 
 
 # ---- The decaying sampler ----
@@ -143,7 +220,7 @@ def last_try(seats, name):
     before = 2 * (seats - 1)
 
     def words_for_tries(c, tries):
-        return c.stakes == [1] and c.k == seats and c.words_there == before + 2 * tries
+        return c.stakes == [1] and c.k == seats and len(c.words()) == before + 2 * tries
 
     return {
         f"last try of {name} accepted": accepted(
@@ -172,7 +249,7 @@ DECAYING = {
     "max_samples and fewer counts": refused(4, lambda c: len(c.given["counts"]) < c.n),
     "a sum past 2^64 - 1 and a count": refused(8, lambda c: c.highest_count > MAX_COUNT - c.k),
     "no stake and a count": refused(9, lambda c: c.highest_count > MAX_COUNT - c.k),
-    "a count and no word": refused(10, lambda c: c.words_there == 0),
+    "a count and no word": refused(10, lambda c: not c.words()),
     "no try allowed": refused(3, lambda c: c.given["allowed"] == 0),
     "100,001 tries allowed": refused(3, lambda c: c.given["allowed"] == MAX_TRIES + 1),
     **{f"{allowed} tries allowed": accepted(
@@ -201,21 +278,183 @@ RESET = {
     "the highest count": lambda c: MAX_COUNT in c.given["counts"],
 }
 
-# The limits of each function, by the crate of the program that replays it.
+# ---- Over bins ----
+
+def pieces(c):
+    """Bin and validator of each piece."""
+    return list(zip(c.answer["piece_bins"], c.answer["piece_validators"]))
+
+
+def most_of_one(items):
+    """How often the most frequent one stands there."""
+    return max(Counter(items).values(), default=0)
+
+
+def piece_places(c):
+    """How many places more than needed each buffer for pieces has."""
+    return [c.given[name] - pieces_needed(c.stakes, c.k) for name in PIECE_ROOMS]
+
+
+def short_last_bin(holds):
+    """A call whose last bin holds less than the others; `holds` speaks of what it holds."""
+    return accepted(lambda c: c.draws > 1 and sum(c.bins[-1]) < sum(c.bins[0])
+                    and holds(c, sum(c.bins[-1])))
+
+
+def value_drawn(of_first):
+    """A value of a bin with several pieces, by the first of them."""
+    return accepted(lambda c: any(len(held) > 1 and value == of_first(held[0])
+                                  for value, held in zip(c.values, c.bins)))
+
+
+PIECE_PLACES = {
+    **{f"a place too few: {name}": refused(
+        7, lambda c, short=[-(other == name) for other in PIECE_ROOMS]:
+            c.given["room"] >= c.k and [min(more, 0) for more in piece_places(c)] == short)
+       for name in PIECE_ROOMS},
+    "no place more than needed": accepted(lambda c: c.k > 0 and piece_places(c) == [0, 0, 0]),
+    "many places more than needed": accepted(lambda c: min(piece_places(c)) > 20),
+    "few places for pieces and a sum past 2^64 - 1": refused(
+        7, lambda c: min(piece_places(c)) < 0 and c.total > TOP),
+    "few places for pieces and no stake": refused(
+        7, lambda c: min(piece_places(c)) < 0 and c.total == 0),
+    "few places for pieces and no validator": refused(1, lambda c: min(piece_places(c)) < 0),
+    "few places for pieces and 1,025 seats": refused(2, lambda c: min(piece_places(c)) < 0),
+}
+
+BINS = {
+    **word_limits("", lambda c: c.swaps, lambda c: c.order is None),
+    **word_limits("2", lambda c: c.draws, lambda c: c.order is not None),
+    "words skipped to the end of the shuffle": refused(
+        12, lambda c: c.order is None and len(c.words()) >= c.n - 1),
+    "an empty bin": refused(11),
+    "an empty bin and no word": refused(11, lambda c: not c.words() and not c.words("2")),
+    "one bin": accepted(lambda c: c.draws == 1 and c.n > 1),
+    "a stake that ends with its bin": accepted(
+        lambda c: any(a[0] != b[0] and a[1] != b[1] for a, b in zip(pieces(c), pieces(c)[1:]))),
+    "a stake in two bins": accepted(lambda c: most_of_one(c.answer["piece_validators"]) == 2),
+    "as many pieces as there can be": accepted(
+        lambda c: c.n > 1 and c.draws > 1 and len(pieces(c)) == c.n + c.draws - 1),
+    "a zero first in the shuffled order": accepted(
+        lambda c: c.draws > 0 and c.kept[c.order[0]] == 0),
+    "a zero last in the shuffled order, all bins full": accepted(
+        lambda c: c.draws > 1 and c.kept[c.order[-1]] == 0
+        and sum(c.bins[0]) == sum(c.bins[-1])),
+    "the value that a running sum reaches": value_drawn(lambda first: first),
+    "the value below a running sum": value_drawn(lambda first: first - 1),
+    "the highest value of a short last bin": short_last_bin(
+        lambda c, held: held > 1 and c.values and c.values[-1] == held - 1),
+    "a word that the capacity would not take there": short_last_bin(
+        lambda c, held: c.words("2")[c.answer["read2"] - 1] % sum(c.bins[0]) >= held),
+}
+
+PARTITION = {
+    **{f"{total} in {bins} bins": refused(
+        11, lambda c, total=total, bins=bins: (c.total, c.k) == (total, bins))
+       for total, bins in ((5, 4), (4, 3), (6, 4))},
+    **{f"{total} in {bins} bins": accepted(
+        lambda c, total=total, bins=bins: (c.total, c.k) == (total, bins))
+       for total, bins in ((5, 3), (7, 4))},
+    "3, 0, 4 in 2 bins": accepted(lambda c: (c.stakes, c.k) == ([3, 0, 4], 2)),
+    "2^64 - 1 in several bins": accepted(lambda c: c.total == TOP and c.k > 1),
+    "a stake over several bins": accepted(
+        lambda c: c.n > 1 and most_of_one(c.answer["piece_validators"]) > 2),
+    **{f"no bins: {number}": refused(number, lambda c: c.k == 0) for number in (1, 8, 9)},
+    "no bins, no place for pieces": accepted(
+        lambda c: c.k == 0 and piece_places(c) == [0, 0, 0]),
+    "no bins, words": accepted(lambda c: c.k == 0 and c.words() and c.words("2")),
+    "few places for pieces and an empty bin": refused(
+        7, lambda c: min(piece_places(c)) < 0 and (c.total, c.k) in ((5, 4), (4, 3), (6, 4))),
+}
+
+
+# ---- FA1 ----
+
+def f64_errors(c):
+    """By how much the floor of a product rounded as f64 differs from each's fixed seats."""
+    return [math.floor(float(s) / float(c.total) * c.k) - s * c.k // c.total for s in c.stakes]
+
+
+NAMED_LISTS = {
+    "49 stakes of 1": ([1] * 49, 49),
+    "15, 7": ([15, 7], 22),
+    "a product that is rounded up": ([10679670600444, 2426574706391], 956),
+    "2^63 alone": ([HALF], 2),
+    "2^63, 2^62": ([HALF, HALF // 2], 4),
+    "5, 3, 2": ([5, 3, 2], 4),
+    "a seat that the stake does not cover": ([2**60 - 1, 3 * 2**59, 3 * 2**59, 1], 4),
+}
+
+FA1 = {
+    **{name: accepted(lambda c, stakes=stakes, k=k: (c.stakes, c.k) == (stakes, k))
+       for name, (stakes, k) in NAMED_LISTS.items()},
+    "no seat": refused(2, lambda c: c.k == 0),
+    "no seat and no validator": refused(1, lambda c: c.k == 0),
+    "no seat and no stake": refused(2, lambda c: c.k == 0 and c.total == 0),
+    "no further seat": accepted(lambda c: c.draws == 0 and c.n > 1),
+    "no further seat and no word": accepted(
+        lambda c: c.draws == 0 and not c.words() and not c.words("2")),
+    **{f"{k} further seats": accepted(lambda c, k=k: c.draws == k) for k in (1, 64, 65)},
+    "no fixed seat": accepted(lambda c: c.draws == c.k > 1),
+    "a stake of exactly T / k": accepted(
+        lambda c: c.draws > 0 and any(s * c.k == c.total for s in c.stakes)),
+    "a stake just below T / k": accepted(
+        lambda c: any(0 < c.total - s * c.k < c.k for s in c.stakes)),
+    "two drawn seats": accepted(lambda c: most_of_one(c.drawn) == 2),
+    "fixed seats and a drawn one": accepted(
+        lambda c: set(c.drawn) & set(c.answer["seats"][:c.k - c.draws])),
+    **{f"products rounded {way}, total about {name}": accepted(
+        lambda c, sign=sign, least=least, most=most:
+            least < c.total <= most and sign in f64_errors(c))
+       for way, sign in (("up", 1), ("down", -1))
+       for name, least, most in (("2^54", 2**53, 2**55), ("2^64", TOP - 2**20, TOP))},
+}
+
+FA1_BINS = {
+    "few places for pieces, and none would be made": refused(
+        7, lambda c: c.given["room"] >= c.k and 0 < c.total <= TOP
+        and fa1_fixed(c.stakes, c.k)[1] == 0),
+}
+
+PLAIN_DRAWS = {
+    "no place for pieces": accepted(lambda c: all(c.given[name] == 0 for name in PIECE_ROOMS)),
+    "places for pieces": accepted(lambda c: min(piece_places(c)) >= 0),
+    "a second list": accepted(lambda c: c.words("2") and c.draws > 0),
+    "a second list from past the end": accepted(lambda c: c.past_end("2") and c.draws > 0),
+}
+
+FIVE_STAKES = [2, 0, 3, 1, 5]
+
+# The limits of each function, by the crate of the program that replays it. The longest lists are
+# asked for once of FA1's two fallbacks.
 LIMITS = {
     "stake_weighted_cases": {
-        "sample": {**LISTS, **SCRATCH, **WORDS},
-        "sample_quorum": {**LISTS, **SCRATCH, **WORDS, **COMMITTEES,
-                          **words_end(5, stakes=[2, 0, 3, 1, 5], k=5)},
+        "sample": {**LISTS, **LONGEST_LISTS, **ZERO_DRAWN, **SCRATCH, **WORDS},
+        "sample_quorum": {**LISTS, **LONGEST_LISTS, **ZERO_DRAWN, **SCRATCH, **WORDS, **NO_SEATS,
+                          **COMMITTEES, **MOST_SEATS, **words_end(5, stakes=FIVE_STAKES, k=5)},
     },
     "decaying_acceptance_cases": {
-        "sample_one": {**LISTS, **lengths(64, 65, 512, 513), **WORDS, **DECAYING,
-                       **last_try(1, "the seat"),
+        "sample_one": {**LISTS, **LONGEST_LISTS, **ZERO_DRAWN, **lengths(64, 65, 512, 513), **WORDS,
+                       **DECAYING, **last_try(1, "the seat"),
                        **words_end(6, stakes=[1, 1], counts=[1, 0])},
-        "sample_quorum": {**LISTS, **lengths(64, 65, 512, 513), **WORDS, **COMMITTEES, **DECAYING,
-                          **REJECTIONS, **last_try(1, "the only seat"),
-                          **last_try(2, "the second seat"),
+        "sample_quorum": {**LISTS, **LONGEST_LISTS, **ZERO_DRAWN, **lengths(64, 65, 512, 513),
+                          **WORDS, **NO_SEATS, **COMMITTEES, **MOST_SEATS, **DECAYING, **REJECTIONS,
+                          **last_try(1, "the only seat"), **last_try(2, "the second seat"),
                           **words_end(10, stakes=[1, 1], k=3, counts=[1, 0])},
         "reset": RESET,
+    },
+    "partition_cases": {
+        "sample_quorum": {**LISTS, **LONGEST_LISTS, **BIN_SCRATCH, **NO_SEATS, **COMMITTEES,
+                          **MOST_SEATS, **PIECE_PLACES, **BINS, **PARTITION,
+                          **words_end(4, stakes=FIVE_STAKES, bins=4),
+                          **words_end(4, "2", stakes=FIVE_STAKES, bins=4)},
+    },
+    "fait_accompli_cases": {
+        "partition_fallback": {**LISTS, **LONGEST_LISTS, **BIN_SCRATCH, **COMMITTEES, **MOST_SEATS,
+                               **PIECE_PLACES, **BINS, **FA1, **FA1_BINS,
+                               **words_end(4, stakes=FIVE_STAKES, k=4),
+                               **words_end(2, "2", stakes=FIVE_STAKES, k=4)},
+        "stake_weighted_fallback": {**LISTS, **ZERO_DRAWN, **BIN_SCRATCH, **WORDS, **COMMITTEES,
+                                    **FA1, **PLAIN_DRAWS, **words_end(2, stakes=FIVE_STAKES, k=5)},
     },
 }

@@ -244,13 +244,26 @@ def eight_bytes(number):
 
 # ---- Reasons to turn a call down, from the input ----
 
-def check_seats(stakes, k=0, least_k=0, allowed=1, max_samples=1.0, room=None, counts=None):
-    """`room` is how many seats the lent buffer takes, where one is lent."""
+def is_short(room, needed):
+    """Whether a buffer is lent, and is shorter than needed."""
+    return room is not None and room < needed
+
+
+def pieces_needed(stakes, bins):
+    """n + b, none for b = 0"""
+    return len(stakes) + bins if bins > 0 else 0
+
+
+def check_seats(stakes, k=0, least_k=0, allowed=1, max_samples=1.0, room=None, counts=None,
+                piece_rooms=()):
+    """`room` is how many seats the lent buffer takes, where one is lent; `piece_rooms` are the
+    places of the buffers for pieces."""
     refuse_if(1, not 1 <= len(stakes) <= MAX_LIST)
     refuse_if(2, not least_k <= k <= MAX_SEATS)
     refuse_if(3, not 1 <= allowed <= MAX_TRIES)
     refuse_if(4, not max_samples > 0)
-    refuse_if(7, room is not None and room < k)
+    refuse_if(7, is_short(room, k))
+    refuse_if(7, any(is_short(places, pieces_needed(stakes, k)) for places in piece_rooms))
     refuse_if(7, counts is not None and len(counts) < len(stakes))
     refuse_if(8, sum(stakes) >= WORD_END)
     refuse_if(9, sum(stakes) == 0)
@@ -267,8 +280,9 @@ def check_counts(stakes, counts, k):
 
 
 # ---- Operations: the fields of a case to the fields of its answer ----
-# `cursor` and `room` are fields of stored cases alone: the place in the list from which words are
-# read, and the seats that the lent buffer takes.
+# Fields of stored cases alone: `cursor` and `cursor2` are the places in `words` and `words2` from
+# which words are read, `room` is how many seats the lent buffer takes, and `room_bins`,
+# `room_validators` and `room_stakes` are the places of the buffers for pieces.
 
 OPERATIONS = {}
 
@@ -312,16 +326,21 @@ def piece_fields(pieces):
 
 
 @operation
-def answer_partition(stakes, bins, words, words2):
-    check_seats(stakes, bins)
+def answer_partition(stakes, bins, words, words2, cursor=0, cursor2=0, room=None,
+                     room_bins=None, room_validators=None, room_stakes=None):
+    check_seats(stakes, bins, room=room, piece_rooms=(room_bins, room_validators, room_stakes))
+    words, words2 = words.past(cursor), words2.past(cursor2)
     seats, pieces = partition_seats(stakes, bins, words, words2)
     return {"seats": seats, **piece_fields(pieces),
             "read": words.read, "read2": words2.read}
 
 
 @operation
-def answer_fa1_bins(stakes, k, words, words2):
-    check_seats(stakes, k, least_k=1)
+def answer_fa1_bins(stakes, k, words, words2, cursor=0, cursor2=0, room=None,
+                    room_bins=None, room_validators=None, room_stakes=None):
+    check_seats(stakes, k, least_k=1, room=room,
+                piece_rooms=(room_bins, room_validators, room_stakes))
+    words, words2 = words.past(cursor), words2.past(cursor2)
     fixed, further, kept = fa1_fixed(stakes, k)
     drawn, pieces = partition_seats(kept, further, words, words2)
     return {"seats": fixed + drawn, "further": further, **piece_fields(pieces),
@@ -329,8 +348,9 @@ def answer_fa1_bins(stakes, k, words, words2):
 
 
 @operation
-def answer_fa1_draws(stakes, k, words):
-    check_seats(stakes, k, least_k=1)
+def answer_fa1_draws(stakes, k, words, cursor=0, room=None):
+    check_seats(stakes, k, least_k=1, room=room)
+    words = words.past(cursor)
     fixed, further, kept = fa1_fixed(stakes, k)
     drawn = iid_seats(kept, further, words)
     return {"seats": fixed + drawn, "further": further, "read": words.read}

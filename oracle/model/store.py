@@ -3,13 +3,13 @@
 
 `store.py --check` writes nothing and ends with 1 if a stored list is not what
 would be written. The cases are some of those that compare.py holds against the
-oracle; what they expect is the model's answer. Cases of the samplers get a
-cursor and lent buffers besides, and are picked so that limits.py is met.
+oracle; what they expect is the model's answer. Cases of the samplers get
+cursors and lent buffers besides, and are picked so that limits.py is met.
 
 A stored case is a line: the number of the function and its name, its fields,
 then `answer:` with 0 and the fields of the answer, or with the refusal's number.
 A list is its length, then its numbers. Numbers stand before lists, and names
-hold no digit.
+hold no digit: `words2` is stored as `words_second`.
 """
 
 import sys
@@ -17,12 +17,15 @@ from pathlib import Path
 
 import model
 from cases import cases
-from limits import LIMITS, TOP, Stored
+from limits import LIMITS, PIECE_ROOMS, TOP, Stored, word_lists
 
 CRATES = Path(__file__).resolve().parents[2] / "crates"
 COMPARED = 20_000
 DRAWS_OF_EACH, DRAWS_LONGEST = 100, 2_000
-OF_EACH, RESETS, LONGEST = 150, 30, 1_500
+OF_EACH, RESETS = 150, 30
+# A longer line is stored only where a limit needs it.
+LONGEST = {"stake_weighted_cases": 1_500, "decaying_acceptance_cases": 1_500,
+           "partition_cases": 600, "fait_accompli_cases": 600}
 
 # The functions of each program, in the order of their numbers, and the operation in FORMAT.md that
 # their cases are taken from.
@@ -32,6 +35,9 @@ PROGRAMS = {
     "stake_weighted_cases": {"sample": "iid", "sample_quorum": "iid"},
     "decaying_acceptance_cases": {"sample_one": "decaying_one", "sample_quorum": "decaying",
                                   "reset": "decaying_one"},
+    "partition_cases": {"sample_quorum": "partition"},
+    "fait_accompli_cases": {"partition_fallback": "fa1_bins",
+                            "stake_weighted_fallback": "fa1_draws"},
 }
 
 # Words that stand before the cursor.
@@ -39,11 +45,14 @@ PASSED = [7046029254386353131, 1609587929392839161, 9650029242287828579]
 CURSORS = (0, 1, 3)
 # Counts that stand past those of the list.
 MORE_COUNTS = [model.MAX_COUNT, 5]
+# How many places more than needed the buffers for pieces have.
+MORE_PLACES = ((0, 0, 0), (0, 1, 2), (2, 0, 1), (30, 60, 90))
 
 
 # ---- Lines ----
 
 def write_field(name, value):
+    name = name.replace("2", "_second")
     if isinstance(value, list):
         return " ".join([f"{name}:", str(len(value)), *map(str, value)])
     return f"{name}={value}"
@@ -65,7 +74,7 @@ def read_fields(tokens):
     """The fields that the tokens spell."""
     fields, at = {}, 0
     while at < len(tokens):
-        name, equals, value = tokens[at].partition("=")
+        name, equals, value = tokens[at].replace("_second", "2").partition("=")
         if equals:
             fields[name], at = int(value), at + 1
         else:
@@ -91,6 +100,9 @@ def answer_of(function, operation, given):
     if function == "sample":
         answer = model.answer_fields(operation, {**given, "k": 1})
         return {"id": answer["seats"][0], "read": answer["read"]}
+    if function == "stake_weighted_fallback":
+        used = {name: given[name] for name in ("stakes", "k", "words", "cursor", "room")}
+        return {**model.answer_fields(operation, used), "read2": 0, **model.piece_fields([])}
     answer = model.answer_fields(operation, given)
     if function == "draw_fraction":
         # By its numerator over 2^53.
@@ -124,37 +136,66 @@ def draw_lines(program, function, own):
 
 # ---- Cases of the samplers ----
 
-def lent(given, i):
-    """A case from a cursor on, with a buffer of k seats or a few more, and counts past the list."""
-    cursor = CURSORS[i % 3]
-    given = {**given, "cursor": cursor, "words": PASSED[:cursor] + given["words"]}
-    if "k" in given:
-        given["room"] = given["k"] + i % 4
+def places_needed(function, given):
+    """How many places of each lent buffer the call needs, but for counts."""
+    size = given.get("k", given.get("bins"))
+    needed = {} if size is None else {"room": size}
+    if "words2" in given:
+        plain = function == "stake_weighted_fallback"
+        pieces = 0 if plain else model.pieces_needed(given["stakes"], size)
+        needed.update(dict.fromkeys(PIECE_ROOMS, pieces))
+    return needed
+
+
+def from_cursor(given, which, cursor):
+    """The first or second list of words, from a cursor on."""
+    return {"cursor" + which: cursor, "words" + which: PASSED[:cursor] + given["words" + which]}
+
+
+def lent(function, given, i):
+    """A case from a cursor on, with the places that it needs or a few more, and counts past the
+    list."""
+    needed = places_needed(function, given)
+    given = {**given, **from_cursor(given, "", CURSORS[i % 3])}
+    if "words2" in given:
+        given.update(from_cursor(given, "2", CURSORS[i // 3 % 3]))
+    more = (i % 4, *MORE_PLACES[i % 4])
+    given.update({name: places + spare for (name, places), spare in zip(needed.items(), more)})
     if "counts" in given and i % 5 == 0:
         given["counts"] = given["counts"] + MORE_COUNTS[:1 + i % 2]
     return given
 
 
-def variants(given, i):
+def variants(function, given, i):
     """The case as lent and, of some, what a short buffer or a cursor past the end makes of it."""
-    yield lent(given, i)
-    if given.get("k", 0) > 0 and i % 3 == 0:
-        yield {**lent(given, i), "room": given["k"] - 1}
+    whole = lent(function, given, i)
+    yield whole
+    if i % 3 == 0:
+        needed = places_needed(function, given)
+        yield from ({**whole, name: places - 1} for name, places in needed.items() if places > 0)
     if given.get("counts") and i % 3 == 1:
-        yield {**lent(given, i), "counts": given["counts"][:-1]}
+        yield {**whole, "counts": given["counts"][:-1]}
     if i % 3 == 2:
-        yield {**lent(given, i), "cursor": TOP if i % 2 else len(given["words"]) + 5}
+        for which in word_lists(given):
+            past_end = TOP if i % 2 else len(given["words" + which]) + 5
+            yield {**whole, "cursor" + which: past_end}
+
+
+def words_kept(stored, which, i):
+    """How many words are kept: those read and two more at most, or all where they may run out."""
+    if stored.past_end(which):
+        return i % 3
+    if stored.refusal in (12, 13):
+        return None
+    return stored.given["cursor" + which] + stored.answer.get("read" + which, 0) + i % 3
 
 
 def without_unread(stored, i):
     """Without the words that are not read, but for two at most."""
-    if stored.past_end:
-        kept = i % 3
-    elif stored.refusal in (12, 13):
-        return stored
-    else:
-        kept = stored.given["cursor"] + stored.answer.get("read", 0) + i % 3
-    return stored._replace(given={**stored.given, "words": stored.given["words"][:kept]})
+    given = dict(stored.given)
+    for which in word_lists(given):
+        given["words" + which] = given["words" + which][:words_kept(stored, which, i)]
+    return stored._replace(given=given)
 
 
 def sampler_cases(function, operation, own):
@@ -163,7 +204,9 @@ def sampler_cases(function, operation, own):
         given = model.read_case(line)[1]
         if function == "sample" and given.pop("k") != 1:
             continue
-        for variant in variants(given, i):
+        if function == "stake_weighted_fallback":
+            given["words2"] = PASSED
+        for variant in variants(function, given, i):
             yield without_unread(answered(function, operation, variant), i)
 
 
@@ -173,7 +216,7 @@ def reset_cases(own):
         yield answered("reset", None, {"counts": counts})
 
 
-def picked(candidates, limits, of_each):
+def picked(candidates, limits, of_each, longest):
     """For each limit two short lines that meet it, or a long one; then accepted calls from all
     over."""
     by_length = sorted(candidates, key=len)
@@ -186,9 +229,9 @@ def picked(candidates, limits, of_each):
     for lines in sorted(meeting.values(), key=lambda lines: len(lines[0]), reverse=True):
         if not chosen.intersection(lines):
             chosen.add(lines[0])
-        chosen.update(line for line in lines[:2] if len(line) <= LONGEST)
+        chosen.update(line for line in lines[:2] if len(line) <= longest)
     others = [line for line, case in candidates.items()
-              if case.accepted and len(line) <= LONGEST and line not in chosen]
+              if case.accepted and len(line) <= longest and line not in chosen]
     more = max(of_each - len(chosen), 0)
     chosen.update(others[::max(len(others) // max(more, 1), 1)][:more])
     return [line for line in candidates if line in chosen]
@@ -198,8 +241,8 @@ def sampler_lines(program, function, own):
     operation = PROGRAMS[program][function]
     stored = reset_cases(own) if function == "reset" else sampler_cases(function, operation, own)
     candidates = {stored_line(program, function, case): case for case in stored}
-    return picked(candidates, LIMITS[program][function],
-                  RESETS if function == "reset" else OF_EACH)
+    of_each = RESETS if function == "reset" else OF_EACH
+    return picked(candidates, LIMITS[program][function], of_each, LONGEST[program])
 
 
 # ---- The lists ----
@@ -222,22 +265,28 @@ COMPARED_FIELDS = {
     "iid": ("stakes", "k", "words"),
     "decaying": ("stakes", "k", "max_samples", "allowed", "counts", "words"),
     "decaying_one": ("stakes", "max_samples", "allowed", "counts", "words"),
+    "partition": ("stakes", "bins", "words", "words2"),
+    "fa1_bins": ("stakes", "k", "words", "words2"),
+    "fa1_draws": ("stakes", "k", "words"),
 }
 
 
 def as_compared(operation, given):
     """A stored case as the oracle takes it: the words from the cursor on, and the list's counts."""
-    fields = {"k": 1, **given, "words": given["words"][given["cursor"]:]}
+    fields = {"k": 1, **given}
+    for which in word_lists(given):
+        fields["words" + which] = given["words" + which][given["cursor" + which]:]
     if "counts" in given:
         fields["counts"] = given["counts"][:len(given["stakes"])]
     names = COMPARED_FIELDS[operation]
     return model.write_fields(operation, {name: fields[name] for name in names})
 
 
-def is_short(given):
+def is_short(function, given):
     """Whether a lent buffer is shorter than needed. In the Rust none is lent."""
     few_counts = len(given.get("counts", given["stakes"])) < len(given["stakes"])
-    return few_counts or given.get("room", 0) < given.get("k", 0)
+    needed = places_needed(function, given)
+    return few_counts or any(given[name] < places for name, places in needed.items())
 
 
 def compared_lines():
@@ -246,7 +295,7 @@ def compared_lines():
     for program in LIMITS:
         for line in (CRATES / program / "stdin").read_text().splitlines():
             function, stored = read_line(line)
-            if function != "reset" and not is_short(stored.given):
+            if function != "reset" and not is_short(function, stored.given):
                 lines.append(as_compared(PROGRAMS[program][function], stored.given))
     return lines
 

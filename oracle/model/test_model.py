@@ -9,7 +9,7 @@ import unittest
 
 import model
 import store
-from limits import LIMITS
+from limits import LIMITS, PIECE_ROOMS
 from model import Refused, Words
 
 TOP = 2**64 - 1
@@ -125,6 +125,19 @@ class Fa1(unittest.TestCase):
                 self.assertEqual(ask("fa1_bins", stakes=[5, 3, 2], k=4, **short), 12)
         self.assertEqual(ask("fa1_draws", stakes=[5, 3, 2], k=4, words=[]), 12)
 
+    def test_cursors(self):
+        fields = {"stakes": [5, 3, 2], "k": 4, "words": [9, 1, 2], "words2": [9, 9, 0]}
+        answer = ask("fa1_bins", **fields, cursor=1, cursor2=2)
+        self.assertEqual((answer["seats"], answer["read"], answer["read2"]), ([0, 0, 1, 1], 2, 1))
+        for cursors in ({"cursor": 2}, {"cursor": TOP}, {"cursor2": 3}, {"cursor2": TOP}):
+            self.assertEqual(ask("fa1_bins", **fields, **cursors), 12)
+        answer = ask("fa1_draws", stakes=[5, 3, 2], k=4, words=[9, 9, 0], cursor=2)
+        self.assertEqual(answer, {"seats": [0, 0, 1, 1], "further": 1, "read": 1})
+        for cursor in (3, 4, TOP):
+            self.assertEqual(ask("fa1_draws", stakes=[5, 3, 2], k=4, words=[0] * 3,
+                                 cursor=cursor), 12)
+        self.assertEqual(ask("fa1_draws", stakes=[HALF], k=2, words=[], cursor=TOP)["read"], 0)
+
 
 class Partition(unittest.TestCase):
     def piece_sums(self, stakes, bins):
@@ -176,6 +189,16 @@ class Partition(unittest.TestCase):
             for n in range(len(words)):
                 short = {**full, name: words[:n]}
                 self.assertEqual(ask("partition", stakes=[3, 0, 4], bins=2, **short), 12)
+
+    def test_cursors(self):
+        fields = {"stakes": [3, 0, 4], "bins": 2, "words": [0, 1, 2], "words2": [9, 9, 3, 0]}
+        answer = ask("partition", **fields, cursor=1, cursor2=2)
+        self.assertEqual((answer["seats"], answer["read"], answer["read2"]), ([2, 2], 2, 2))
+        self.assertEqual(answer["piece_validators"], [0, 2, 2])
+        for cursors in ({"cursor": 2}, {"cursor": TOP}, {"cursor2": 3}, {"cursor2": TOP}):
+            self.assertEqual(ask("partition", **fields, **cursors), 12)
+        fields["bins"] = 0
+        self.assertEqual(ask("partition", **fields, cursor=TOP, cursor2=4)["seats"], [])
 
 
 class Iid(unittest.TestCase):
@@ -411,8 +434,8 @@ class Refusals(unittest.TestCase):
 
     SAMPLERS = {
         "iid": {"k": 1, "words": [0] * 5_000},
-        "partition": {"bins": 1, "words": [0] * 5_000, "words2": [0]},
-        "fa1_bins": {"k": 1, "words": [0] * 5_000, "words2": [0]},
+        "partition": {"bins": 1, "words": [0] * 5_000, "words2": [0] * 2_000},
+        "fa1_bins": {"k": 1, "words": [0] * 5_000, "words2": [0] * 2_000},
         "fa1_draws": {"k": 1, "words": [0]},
         "decaying": {"k": 1, "max_samples": 1.0, "allowed": 1, "words": [0] * 5_000},
         "decaying_one": {"max_samples": 1.0, "allowed": 1, "words": [0] * 5_000},
@@ -446,10 +469,8 @@ class Refusals(unittest.TestCase):
             self.assertEqual(ask("turbine", stakes=[0] * n, **view), 1)
 
     def test_2_size(self):
-        words2 = {"words2": [0] * 2_000}
         for operation, size in self.SIZES.items():
-            more = words2 if "words2" in self.SAMPLERS[operation] else {}
-            more = {**more, "max_samples": math.inf} if operation == "decaying" else more
+            more = {"max_samples": math.inf} if operation == "decaying" else {}
             self.assertAccepted(self.call(operation, [2_048], **{size: 1_024}, **more))
             self.assertEqual(self.call(operation, [2_048], **{size: 1_025}, **more), 2)
 
@@ -498,6 +519,25 @@ class Refusals(unittest.TestCase):
                     self.assertEqual(self.call(operation, [1, 2], room=room, **more), 7)
             self.assertAccepted(self.call(operation, [1, 2], k=0, room=0))
 
+    def test_7_room_over_bins(self):
+        for operation, size in (("partition", "bins"), ("fa1_bins", "k"), ("fa1_draws", "k")):
+            for room in (2, 3):
+                self.assertAccepted(self.call(operation, [1, 2], **{size: 2}, room=room))
+            for room in (0, 1):
+                self.assertEqual(self.call(operation, [1, 2], **{size: 2}, room=room), 7)
+        self.assertAccepted(self.call("partition", [1, 2], bins=0, room=0))
+
+    def test_7_pieces(self):
+        for operation, size in (("partition", "bins"), ("fa1_bins", "k")):
+            for name in PIECE_ROOMS:
+                # Two stakes, and two bins or seats.
+                for places in (4, 5, 9):
+                    self.assertAccepted(self.call(operation, [1, 2], **{size: 2, name: places}))
+                for places in (0, 3):
+                    self.assertEqual(self.call(operation, [1, 2], **{size: 2, name: places}), 7)
+        no_places = dict.fromkeys(PIECE_ROOMS, 0)
+        self.assertAccepted(self.call("partition", [1, 2], bins=0, **no_places))
+
     def test_7_counts(self):
         for operation in self.DECAYING:
             for counts in ([0, 0], [0, 0, MAX_COUNT]):
@@ -507,8 +547,11 @@ class Refusals(unittest.TestCase):
 
     def test_7_is_before_8_and_9(self):
         for stakes in ([TOP, 1], [0, 0]):
-            for operation in ("iid", "decaying"):
+            for operation in self.SIZES:
                 self.assertEqual(self.call(operation, stakes, room=0), 7)
+            for operation in ("partition", "fa1_bins"):
+                for name in PIECE_ROOMS:
+                    self.assertEqual(self.call(operation, stakes, **{name: 2}), 7)
             for operation in self.DECAYING:
                 self.assertEqual(self.call(operation, stakes, counts=[0]), 7)
 
@@ -543,6 +586,16 @@ class Refusals(unittest.TestCase):
                 self.assertEqual(self.call(operation, [0], **size, **nothing), 2)
             self.assertEqual(self.call(operation, [0], **nothing), 9)
         self.assertEqual(self.call("partition", [5], bins=4, words=[], words2=[]), 11)
+
+    def test_lowest_over_bins(self):
+        faults = [(1, {"stakes": []}), (2, {"bins": 1_025}), (7, {"room_stakes": 3}),
+                  (9, {"stakes": [0]}), (11, {"bins": 4}), (12, {"words2": []})]
+        case = {"stakes": [5], "bins": 3, "words": [], "words2": [0, 0, 0], "room": 1_025,
+                "room_bins": 1_026, "room_validators": 1_026, "room_stakes": 1_026}
+        self.assertAccepted(ask("partition", **case))
+        for number, fault in reversed(faults):
+            case.update(fault)
+            self.assertEqual(ask("partition", **case), number)
 
     def test_lowest_of_decaying(self):
         faults = [(2, {"k": 1_025}), (3, {"allowed": 0}), (4, {"max_samples": 0.0}),
@@ -677,9 +730,15 @@ class Lines(unittest.TestCase):
 class StoredLists(unittest.TestCase):
     """The lists as they are stored in crates/."""
 
-    REFUSALS = {"sample": {1, 8, 9, 12}, "sample_one": {1, 3, 4, 7, 8, 9, 10, 12, 13},
-                "sample_quorum": {1, 2, 7, 8, 9, 12}, "reset": set()}
-    OF_DECAYING_COMMITTEES = {3, 4, 10, 13}
+    REFUSALS = {
+        "stake_weighted_cases": {"sample": {1, 8, 9, 12}, "sample_quorum": {1, 2, 7, 8, 9, 12}},
+        "decaying_acceptance_cases": {"sample_one": {1, 3, 4, 7, 8, 9, 10, 12, 13},
+                                      "sample_quorum": {1, 2, 3, 4, 7, 8, 9, 10, 12, 13},
+                                      "reset": set()},
+        "partition_cases": {"sample_quorum": {1, 2, 7, 8, 9, 11, 12}},
+        "fait_accompli_cases": {"partition_fallback": {1, 2, 7, 8, 9, 11, 12},
+                                "stake_weighted_fallback": {1, 2, 7, 8, 9, 12}},
+    }
 
     def lines(self, program):
         return (store.CRATES / program / "stdin").read_text().splitlines(keepends=True)
@@ -699,9 +758,7 @@ class StoredLists(unittest.TestCase):
 
     def test_every_refusal_is_stored(self):
         for program, function, own in self.by_function():
-            numbers = self.REFUSALS[function]
-            if program.startswith("decaying") and function == "sample_quorum":
-                numbers = numbers | self.OF_DECAYING_COMMITTEES
+            numbers = self.REFUSALS[program][function]
             with self.subTest(program=program, function=function):
                 self.assertEqual({case.refusal for case in own} - {0}, numbers)
 

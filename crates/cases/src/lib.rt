@@ -11,8 +11,13 @@ ghost use Rattle.cases.specs.Lists.{numbersAt, listAt, numbersSays, Begi
 use libc::STDIN_FILENO;
 use libc::STDOUT_FILENO;
 
+mod pieces;
 mod replay;
 
+pub use pieces::Lent;
+pub use pieces::TwoLists;
+pub use pieces::check_pieces;
+pub use pieces::read_two_lists;
 pub use replay::Expected;
 pub use replay::Given;
 pub use replay::Verdict;

@@ -13,11 +13,11 @@ use Rattle.refusals.specs.declared.Refusal.{Refusal}
 use Rattle.refusals.specs.declared.Refusal.the-variants.{None, Number}
 use Rattle.refusals.specs.Refusals.{Check, lowest, listLength, size, shortBuffer, sumPast, totalZero, emptyBin}
 use Rattle.refusals.proofs.CheckLaws.{passed, after-none, after-number, listed, summed}
-use Rattle.words.specs.Outcome.{Outcome, refused, accepted, unless}
+use Rattle.words.specs.Outcome.{refused, accepted, unless}
 use Rattle.words.proofs.Outcomes.{turned-down}
-use Rattle.partition.specs.Seats.{capacity, Parted, overBins}
+use Rattle.partition.specs.Seats.{capacity, overBins, parted}
 use Rattle.partition.specs.Calls.{Places, shortPieces, mostPieces, quorum}
-use Rattle.partition.specs.Values.{Fillable, Admitted}
+use Rattle.partition.specs.Values.{Fillable, Partable}
 
 pub most-some : (n b : ℕ) → 0 < b → mostPieces n b ≡ n + b
 most-some n zero h = absurd (omega arith)
@@ -72,24 +72,26 @@ last-some cap S b h e = leb-false S ((b - 1) * cap) (and-right (leb 1 b) (le-leb
 pub fillable : (stakes : List ℕ) (S b : ℕ) → S ≡ total stakes → 0 < b → emptyBin (capacity S b) S b .applies ≡ false → Fillable stakes S (capacity S b) b
 fillable stakes S b e h q = record { is = e; some = h; room = capacity-fits S b h; full = last-some (capacity S b) S b h q }
 
--- the outcome after 11 was looked at
-module _ (stakes : List ℕ) (S b : ℕ) (first second : List ℕ) where
-  abbrev pub after11 : Outcome Parted
-  after11 = unless (lowest (emptyBin (capacity S b) S b ∷ [])) (overBins stakes (capacity S b) b first second)
+-- the outcome where 11 does not apply, where it does, and without bins
+module _ (weights : List ℕ) (S b : ℕ) (first second : List ℕ) where
+  pub parted-full : emptyBin (capacity S b) S b .applies ≡ false → parted weights S b first second ≡ overBins weights (capacity S b) b first second
+  parted-full e = rw e
 
-  pub after-none-empty : emptyBin (capacity S b) S b .applies ≡ false → after11 ≡ overBins stakes (capacity S b) b first second
-  after-none-empty e = rw e
+  pub parted-empty : emptyBin (capacity S b) S b .applies ≡ true → parted weights S b first second ≡ refused 11
+  parted-empty e = rw e
 
-  pub after-empty : emptyBin (capacity S b) S b .applies ≡ true → after11 ≡ refused 11
-  after-empty e = rw e
-
-  pub after-no-bins : b ≡ 0 → after11 ≡ accepted (record { drawn = []; pieces = []; firstLeft = first }) second
-  after-no-bins e = rw e
+  pub parted-none : b ≡ 0 → parted weights S b first second ≡ accepted (record { drawn = []; pieces = []; firstLeft = first }) second
+  parted-none e = rw e
 
 -- what the sizes and the sum tell
+pub record Admitted (stakes : List ℕ) (S b : ℕ) (p : Places) : Type 0 where
+  pub long : length stakes ≤ 4096
+  pub room : b ≤ p .seats
+  pub partable : Partable stakes S b (p .bins) (p .validators) (p .stakes)
+
 pub admitted : (stakes : List ℕ) (S b : ℕ) (p : Places) →
     lowest (listLength (length stakes) ∷ size b ∷ shortBuffer (p .seats) b ∷ shortPieces p (mostPieces (length stakes) b) ∷ []) ≡ None →
-    lowest (sumPast stakes ∷ totalZero stakes ∷ []) ≡ None → S ≡ total stakes → Admitted stakes S b (p .seats) (p .bins) (p .validators) (p .stakes)
+    lowest (sumPast stakes ∷ totalZero stakes ∷ []) ≡ None → S ≡ total stakes → Admitted stakes S b p
 admitted stakes S b p e f q =
     let n = length stakes in
     let pieces = shortPieces p (mostPieces n b) in
@@ -99,13 +101,15 @@ admitted stakes S b p e f q =
     let g = room-for-pieces p (mostPieces n b) (passed pieces [] (d .rest) .head) in
     record {
       long = listed n (a .head) .long;
-      few = ltb-false 1024 b (c .head);
       room = ltb-false (p .seats) b (d .head);
-      bins-room = λ h. omega (arith, g .0, most-some n b h);
-      validators-room = λ h. omega (arith, g .1 .0, most-some n b h);
-      stakes-room = λ h. omega (arith, g .1 .1, most-some n b h);
-      is = q;
-      some = omega (arith, summed stakes f .above);
+      partable = record {
+        is = q;
+        some = λ h. omega (arith, summed stakes f .above);
+        few = ltb-false 1024 b (c .head);
+        bins-room = λ h. omega (arith, g .0, most-some n b h);
+        validators-room = λ h. omega (arith, g .1 .0, most-some n b h);
+        stakes-room = λ h. omega (arith, g .1 .1, most-some n b h);
+      };
     }
 
 -- a call in the order of its checks: by the sizes, then by the sum, then by the bins
@@ -125,7 +129,7 @@ module _ (stakes : List ℕ) (b : ℕ) (p : Places) (first second : List ℕ) wh
   pub call-sum-refused : (n : ℕ) → lowest bySize ≡ None → lowest bySum ≡ Number n → quorum stakes b p first second ≡ refused n
   call-sum-refused n e f = turned-down _ _ (after-none bySize (bySum ++ byBins) e ∙ after-number bySum byBins n f)
 
-  pub call-drawn : (S : ℕ) → lowest bySize ≡ None → lowest bySum ≡ None → S ≡ total stakes → after11 stakes S b first second ≡ quorum stakes b p first second
+  pub call-drawn : (S : ℕ) → lowest bySize ≡ None → lowest bySum ≡ None → S ≡ total stakes → parted stakes S b first second ≡ quorum stakes b p first second
   call-drawn S e f q =
-      ap (λ (t : ℕ). after11 stakes t b first second) q
+      ap (λ (t : ℕ). parted stakes t b first second) q
       ∙ ap (λ (r : Refusal). unless r (overBins stakes (capacity (total stakes) b) b first second)) (sym (after-none bySize (bySum ++ byBins) e ∙ after-none bySum byBins f))

@@ -1,7 +1,7 @@
 -- Laws of the seats over bins, by what the shuffle and the draws of the values give.
 use Prim.Native.Nat.{ℕ, zero, suc, _+_, _-_, _*_, _≤_, _<_}
 use mathlib.Core.Path.{_≡_, refl, sym, ap, _∙_}
-use mathlib.Core.List.{List, [], _++_, map}
+use mathlib.Core.List.{List, [], _∷_, _++_, map}
 use native.Mathlib.Nat.{sub-self}
 use native.Mathlib.Omega.{arith}
 use lib.ListN.{length, getD, drop, length-map}
@@ -95,6 +95,12 @@ Says first second o r seats bs₀ vs₀ ss₀ bs vs ss =
 pub says-refused : (first second : List ℕ) (o : Outcome Parted) (n : ℕ) → o ≡ refused n → (seats bs vs ss : List ℕ) → Says first second o (Refused n) seats bs vs ss bs vs ss
 says-refused first second o n e seats bs vs ss = rw e (refl, (tt, (refl, (refl, refl))))
 
+-- without bins nothing is read and nothing stored
+pub says-none : (first second : List ℕ) (o : Outcome Parted) → o ≡ accepted (record { drawn = []; pieces = []; firstLeft = first }) second → (seats bs vs ss : List ℕ) → length seats ≡ 0 →
+    Says first second o (Accepted (record { pieces = 0; «first_words_read» = 0; «second_words_read» = 0 })) seats bs vs ss bs vs ss
+says-none first second o e [] bs vs ss l = rw (e, sub-self (length first), sub-self (length second)) (refl, (refl, (refl, (refl, refl))))
+says-none first second o e (x ∷ xs) bs vs ss l = absurd (omega arith)
+
 -- a column at the front of its buffer
 front : (f : Piece → ℕ) (ps : List Piece) (count : ℕ) (held : List ℕ) → count ≡ length ps → map f ps ++ drop count held ≡ map f ps ++ drop (length (map f ps)) held
 front f ps count held e = ap (λ (n : ℕ). map f ps ++ drop n held) (e ∙ sym (length-map ps f))
@@ -187,8 +193,3 @@ stored-refused first second (accepted q left) n seats₀ e = absurd (let z : _�
 -- a call that is refused leaves all buffers as they were
 pub given-refused : (first second : List ℕ) (o : Outcome Parted) (n : ℕ) → o ≡ refused n → (seats bs vs ss : List ℕ) → Given first second o (Refused n) seats bs vs ss seats bs vs ss
 given-refused first second o n e seats bs vs ss = rw e (refl, (refl, (refl, (refl, refl))))
-
--- without bins nothing is read and nothing stored
-pub given-none : (first second : List ℕ) (o : Outcome Parted) → o ≡ accepted (record { drawn = []; pieces = []; firstLeft = first }) second → (seats bs vs ss : List ℕ) →
-    Given first second o (Accepted (record { pieces = 0; «first_words_read» = 0; «second_words_read» = 0 })) seats bs vs ss seats bs vs ss
-given-none first second o e seats bs vs ss = rw (e, sub-self (length first), sub-self (length second)) (refl, (refl, (refl, (refl, refl))))

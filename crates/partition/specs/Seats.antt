@@ -2,7 +2,8 @@
 use Prim.Native.Nat.{ℕ, zero, suc, _+_, _-_, _/_}
 use mathlib.Core.List.{List, [], _∷_, map}
 use lib.ListN.{length, getD}
-use Rattle.words.specs.Outcome.{Outcome, accepted, next, each, giving}
+use Rattle.refusals.specs.Refusals.{lowest, emptyBin}
+use Rattle.words.specs.Outcome.{Outcome, accepted, next, each, giving, unless}
 use Rattle.draws.specs.declared.weighted.Place.{Place}
 use Rattle.draws.specs.Weighted.{weighted, ids}
 use Rattle.draws.specs.Shuffle.{shuffle}
@@ -64,3 +65,7 @@ overBins weights cap (suc b) first second =
     next (shuffle (idsFrom 0 (length weights)) first) (λ order firstLeft.
     let bins = fill cap (suc b) (inOrder weights order) in
     giving (λ drawn. record { drawn = drawn; pieces = pieces 0 bins; firstLeft = firstLeft }) (each seat bins second))
+
+-- the seats of b bins with the capacity for S, the sum of the weights; or 11, where "a bin would be empty"
+abbrev pub parted : List ℕ → ℕ → ℕ → List ℕ → List ℕ → Outcome Parted
+parted weights S b first second = unless (lowest (emptyBin (capacity S b) S b ∷ [])) (overBins weights (capacity S b) b first second)

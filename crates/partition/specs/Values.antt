@@ -44,13 +44,11 @@ pub record Fillable (weights : List ℕ) (sum cap b : ℕ) : Type 0 where
   pub room : sum ≤ b * cap
   pub full : (b - 1) * cap < sum
 
--- what holds where a call into b bins is turned down neither by its sizes nor by the sum
-pub record Admitted (stakes : List ℕ) (sum b seats bins validators pieceStakes : ℕ) : Type 0 where
-  pub long : length stakes ≤ 4096
+-- weights of this sum that b bins may be filled with, if there is one, and places for their pieces
+pub record Partable (weights : List ℕ) (sum b bins validators stakes : ℕ) : Type 0 where
+  pub is : sum ≡ total weights
+  pub some : 0 < b → 0 < sum
   pub few : b ≤ 1024
-  pub room : b ≤ seats
-  pub bins-room : 0 < b → length stakes + b ≤ bins
-  pub validators-room : 0 < b → length stakes + b ≤ validators
-  pub stakes-room : 0 < b → length stakes + b ≤ pieceStakes
-  pub is : sum ≡ total stakes
-  pub some : 0 < sum
+  pub bins-room : 0 < b → length weights + b ≤ bins
+  pub validators-room : 0 < b → length weights + b ≤ validators
+  pub stakes-room : 0 < b → length weights + b ≤ stakes

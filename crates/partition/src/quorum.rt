@@ -1,24 +1,18 @@
 // A partition by a call that is not turned down by its sizes and sum.
-use crate::answers::Partition;
 use crate::answers::PartitionAnswer;
-use crate::checks;
 use crate::seats;
-ghost use Prim.Native.Nat.{_+_, _≤_, _<_};
+ghost use Prim.Native.Nat.{_≤_};
 ghost use mathlib.Core.Path.{_≡_};
 ghost use lib.ListN.{length, drop};
-ghost use Rattle.laws.specs.Sums.{total};
-ghost use Rattle.words.specs.Outcome.{unless, bufferAfter};
-ghost use Rattle.refusals.specs.Refusals.{lowest, emptyBin};
-ghost use mathlib.Core.List.{[], _∷_};
-ghost use Rattle.partition.specs.Seats.{capacity, overBins, seatIds, pieceBins, pieceValidators, pieceStakes};
-ghost use Rattle.partition.specs.Values.{Fillable, Admitted};
+ghost use Rattle.words.specs.Outcome.{bufferAfter};
+ghost use Rattle.partition.specs.Seats.{parted, seatIds, pieceBins, pieceValidators, pieceStakes};
+ghost use Rattle.partition.specs.Values.{Partable};
 ghost use Rattle.partition.specs.Answers.{partitionAnswer};
 
 // A partition into as many bins as drawn has places. The seats are stored once all are drawn.
 fn store_quorum(
     stakes: &[u64],
     sum: u64,
-    capacity: u64,
     first: &[u64],
     first_cursor: usize,
     second: &[u64],
@@ -30,22 +24,18 @@ fn store_quorum(
     piece_validators: &mut [u64],
     piece_stakes: &mut [u64],
 ) -> PartitionAnswer
-    requires { ⌜ Fillable (now stakes) sum capacity (length (now drawn)) ⌝ }
+    requires { ⌜ Partable (now stakes) sum (length (now drawn)) (length (now «piece_bins»)) (length (now «piece_validators»)) (length (now «piece_stakes»)) ⌝ }
     requires { ⌜ length (now order) ≡ length (now stakes) ⌝ }
     requires { ⌜ length (now drawn) ≤ length (now seats) ⌝ }
-    requires { ⌜ length (now stakes) + length (now drawn) ≤ length (now «piece_bins») ⌝ }
-    requires { ⌜ length (now stakes) + length (now drawn) ≤ length (now «piece_validators») ⌝ }
-    requires { ⌜ length (now stakes) + length (now drawn) ≤ length (now «piece_stakes») ⌝ }
-    ensures { λ r. ⌜ r ≡ partitionAnswer (drop «first_cursor» (now (first .entry))) (drop «second_cursor» (now (second .entry))) (overBins (now (stakes .entry)) capacity (length (now (drawn .entry))) (drop «first_cursor» (now (first .entry))) (drop «second_cursor» (now (second .entry)))) ⌝ }
-    ensures { λ r. ⌜ now (seats .exit) ≡ bufferAfter (overBins (now (stakes .entry)) capacity (length (now (drawn .entry))) (drop «first_cursor» (now (first .entry))) (drop «second_cursor» (now (second .entry)))) seatIds (now (seats .entry)) ⌝ }
-    ensures { λ r. ⌜ now («piece_bins» .exit) ≡ bufferAfter (overBins (now (stakes .entry)) capacity (length (now (drawn .entry))) (drop «first_cursor» (now (first .entry))) (drop «second_cursor» (now (second .entry)))) pieceBins (now («piece_bins» .entry)) ⌝ }
-    ensures { λ r. ⌜ now («piece_validators» .exit) ≡ bufferAfter (overBins (now (stakes .entry)) capacity (length (now (drawn .entry))) (drop «first_cursor» (now (first .entry))) (drop «second_cursor» (now (second .entry)))) pieceValidators (now («piece_validators» .entry)) ⌝ }
-    ensures { λ r. ⌜ now («piece_stakes» .exit) ≡ bufferAfter (overBins (now (stakes .entry)) capacity (length (now (drawn .entry))) (drop «first_cursor» (now (first .entry))) (drop «second_cursor» (now (second .entry)))) pieceStakes (now («piece_stakes» .entry)) ⌝ }
+    ensures { λ r. ⌜ r ≡ partitionAnswer (drop «first_cursor» (now (first .entry))) (drop «second_cursor» (now (second .entry))) (parted (now (stakes .entry)) sum (length (now (drawn .entry))) (drop «first_cursor» (now (first .entry))) (drop «second_cursor» (now (second .entry)))) ⌝ }
+    ensures { λ r. ⌜ now (seats .exit) ≡ bufferAfter (parted (now (stakes .entry)) sum (length (now (drawn .entry))) (drop «first_cursor» (now (first .entry))) (drop «second_cursor» (now (second .entry)))) seatIds (now (seats .entry)) ⌝ }
+    ensures { λ r. ⌜ now («piece_bins» .exit) ≡ bufferAfter (parted (now (stakes .entry)) sum (length (now (drawn .entry))) (drop «first_cursor» (now (first .entry))) (drop «second_cursor» (now (second .entry)))) pieceBins (now («piece_bins» .entry)) ⌝ }
+    ensures { λ r. ⌜ now («piece_validators» .exit) ≡ bufferAfter (parted (now (stakes .entry)) sum (length (now (drawn .entry))) (drop «first_cursor» (now (first .entry))) (drop «second_cursor» (now (second .entry)))) pieceValidators (now («piece_validators» .entry)) ⌝ }
+    ensures { λ r. ⌜ now («piece_stakes» .exit) ≡ bufferAfter (parted (now (stakes .entry)) sum (length (now (drawn .entry))) (drop «first_cursor» (now (first .entry))) (drop «second_cursor» (now (second .entry)))) pieceStakes (now («piece_stakes» .entry)) ⌝ }
 {
-    match seats::draw_bins(
+    match seats::draw_parted(
         stakes,
         sum,
-        capacity,
         first,
         first_cursor,
         second,
@@ -68,7 +58,6 @@ fn store_quorum(
 fn quorum_in_scratch(
     stakes: &[u64],
     sum: u64,
-    capacity: u64,
     bins: usize,
     first: &[u64],
     first_cursor: usize,
@@ -81,24 +70,20 @@ fn quorum_in_scratch(
     piece_validators: &mut [u64],
     piece_stakes: &mut [u64],
 ) -> PartitionAnswer
-    requires { ⌜ Fillable (now stakes) sum capacity bins ⌝ }
+    requires { ⌜ Partable (now stakes) sum bins (length (now «piece_bins»)) (length (now «piece_validators»)) (length (now «piece_stakes»)) ⌝ }
     requires { ⌜ length (now stakes) ≤ length (now order) ⌝ }
     requires { ⌜ bins ≤ length (now drawn) ⌝ }
     requires { ⌜ bins ≤ length (now seats) ⌝ }
-    requires { ⌜ length (now stakes) + bins ≤ length (now «piece_bins») ⌝ }
-    requires { ⌜ length (now stakes) + bins ≤ length (now «piece_validators») ⌝ }
-    requires { ⌜ length (now stakes) + bins ≤ length (now «piece_stakes») ⌝ }
-    ensures { λ r. ⌜ r ≡ partitionAnswer (drop «first_cursor» (now (first .entry))) (drop «second_cursor» (now (second .entry))) (overBins (now (stakes .entry)) capacity bins (drop «first_cursor» (now (first .entry))) (drop «second_cursor» (now (second .entry)))) ⌝ }
-    ensures { λ r. ⌜ now (seats .exit) ≡ bufferAfter (overBins (now (stakes .entry)) capacity bins (drop «first_cursor» (now (first .entry))) (drop «second_cursor» (now (second .entry)))) seatIds (now (seats .entry)) ⌝ }
-    ensures { λ r. ⌜ now («piece_bins» .exit) ≡ bufferAfter (overBins (now (stakes .entry)) capacity bins (drop «first_cursor» (now (first .entry))) (drop «second_cursor» (now (second .entry)))) pieceBins (now («piece_bins» .entry)) ⌝ }
-    ensures { λ r. ⌜ now («piece_validators» .exit) ≡ bufferAfter (overBins (now (stakes .entry)) capacity bins (drop «first_cursor» (now (first .entry))) (drop «second_cursor» (now (second .entry)))) pieceValidators (now («piece_validators» .entry)) ⌝ }
-    ensures { λ r. ⌜ now («piece_stakes» .exit) ≡ bufferAfter (overBins (now (stakes .entry)) capacity bins (drop «first_cursor» (now (first .entry))) (drop «second_cursor» (now (second .entry)))) pieceStakes (now («piece_stakes» .entry)) ⌝ }
+    ensures { λ r. ⌜ r ≡ partitionAnswer (drop «first_cursor» (now (first .entry))) (drop «second_cursor» (now (second .entry))) (parted (now (stakes .entry)) sum bins (drop «first_cursor» (now (first .entry))) (drop «second_cursor» (now (second .entry)))) ⌝ }
+    ensures { λ r. ⌜ now (seats .exit) ≡ bufferAfter (parted (now (stakes .entry)) sum bins (drop «first_cursor» (now (first .entry))) (drop «second_cursor» (now (second .entry)))) seatIds (now (seats .entry)) ⌝ }
+    ensures { λ r. ⌜ now («piece_bins» .exit) ≡ bufferAfter (parted (now (stakes .entry)) sum bins (drop «first_cursor» (now (first .entry))) (drop «second_cursor» (now (second .entry)))) pieceBins (now («piece_bins» .entry)) ⌝ }
+    ensures { λ r. ⌜ now («piece_validators» .exit) ≡ bufferAfter (parted (now (stakes .entry)) sum bins (drop «first_cursor» (now (first .entry))) (drop «second_cursor» (now (second .entry)))) pieceValidators (now («piece_validators» .entry)) ⌝ }
+    ensures { λ r. ⌜ now («piece_stakes» .exit) ≡ bufferAfter (parted (now (stakes .entry)) sum bins (drop «first_cursor» (now (first .entry))) (drop «second_cursor» (now (second .entry)))) pieceStakes (now («piece_stakes» .entry)) ⌝ }
 {
     let n = stakes.len();
     store_quorum(
         stakes,
         sum,
-        capacity,
         first,
         first_cursor,
         second,
@@ -113,10 +98,9 @@ fn quorum_in_scratch(
 }
 
 // A partition, in scratch space that is chosen by the sizes, since zeroing what is not needed costs time.
-fn quorum_by_size(
+pub fn draw_quorum(
     stakes: &[u64],
     sum: u64,
-    capacity: u64,
     bins: usize,
     first: &[u64],
     first_cursor: usize,
@@ -127,18 +111,14 @@ fn quorum_by_size(
     piece_validators: &mut [u64],
     piece_stakes: &mut [u64],
 ) -> PartitionAnswer
-    requires { ⌜ Fillable (now stakes) sum capacity bins ⌝ }
+    requires { ⌜ Partable (now stakes) sum bins (length (now «piece_bins»)) (length (now «piece_validators»)) (length (now «piece_stakes»)) ⌝ }
     requires { ⌜ length (now stakes) ≤ 4096 ⌝ }
-    requires { ⌜ bins ≤ 1024 ⌝ }
     requires { ⌜ bins ≤ length (now seats) ⌝ }
-    requires { ⌜ length (now stakes) + bins ≤ length (now «piece_bins») ⌝ }
-    requires { ⌜ length (now stakes) + bins ≤ length (now «piece_validators») ⌝ }
-    requires { ⌜ length (now stakes) + bins ≤ length (now «piece_stakes») ⌝ }
-    ensures { λ r. ⌜ r ≡ partitionAnswer (drop «first_cursor» (now (first .entry))) (drop «second_cursor» (now (second .entry))) (overBins (now (stakes .entry)) capacity bins (drop «first_cursor» (now (first .entry))) (drop «second_cursor» (now (second .entry)))) ⌝ }
-    ensures { λ r. ⌜ now (seats .exit) ≡ bufferAfter (overBins (now (stakes .entry)) capacity bins (drop «first_cursor» (now (first .entry))) (drop «second_cursor» (now (second .entry)))) seatIds (now (seats .entry)) ⌝ }
-    ensures { λ r. ⌜ now («piece_bins» .exit) ≡ bufferAfter (overBins (now (stakes .entry)) capacity bins (drop «first_cursor» (now (first .entry))) (drop «second_cursor» (now (second .entry)))) pieceBins (now («piece_bins» .entry)) ⌝ }
-    ensures { λ r. ⌜ now («piece_validators» .exit) ≡ bufferAfter (overBins (now (stakes .entry)) capacity bins (drop «first_cursor» (now (first .entry))) (drop «second_cursor» (now (second .entry)))) pieceValidators (now («piece_validators» .entry)) ⌝ }
-    ensures { λ r. ⌜ now («piece_stakes» .exit) ≡ bufferAfter (overBins (now (stakes .entry)) capacity bins (drop «first_cursor» (now (first .entry))) (drop «second_cursor» (now (second .entry)))) pieceStakes (now («piece_stakes» .entry)) ⌝ }
+    ensures { λ r. ⌜ r ≡ partitionAnswer (drop «first_cursor» (now (first .entry))) (drop «second_cursor» (now (second .entry))) (parted (now (stakes .entry)) sum bins (drop «first_cursor» (now (first .entry))) (drop «second_cursor» (now (second .entry)))) ⌝ }
+    ensures { λ r. ⌜ now (seats .exit) ≡ bufferAfter (parted (now (stakes .entry)) sum bins (drop «first_cursor» (now (first .entry))) (drop «second_cursor» (now (second .entry)))) seatIds (now (seats .entry)) ⌝ }
+    ensures { λ r. ⌜ now («piece_bins» .exit) ≡ bufferAfter (parted (now (stakes .entry)) sum bins (drop «first_cursor» (now (first .entry))) (drop «second_cursor» (now (second .entry)))) pieceBins (now («piece_bins» .entry)) ⌝ }
+    ensures { λ r. ⌜ now («piece_validators» .exit) ≡ bufferAfter (parted (now (stakes .entry)) sum bins (drop «first_cursor» (now (first .entry))) (drop «second_cursor» (now (second .entry)))) pieceValidators (now («piece_validators» .entry)) ⌝ }
+    ensures { λ r. ⌜ now («piece_stakes» .exit) ≡ bufferAfter (parted (now (stakes .entry)) sum bins (drop «first_cursor» (now (first .entry))) (drop «second_cursor» (now (second .entry)))) pieceStakes (now («piece_stakes» .entry)) ⌝ }
 {
     let n = stakes.len();
     if n <= 64 && bins <= 64 {
@@ -147,7 +127,6 @@ fn quorum_by_size(
         return quorum_in_scratch(
             stakes,
             sum,
-            capacity,
             bins,
             first,
             first_cursor,
@@ -167,7 +146,6 @@ fn quorum_by_size(
         return quorum_in_scratch(
             stakes,
             sum,
-            capacity,
             bins,
             first,
             first_cursor,
@@ -185,7 +163,6 @@ fn quorum_by_size(
     quorum_in_scratch(
         stakes,
         sum,
-        capacity,
         bins,
         first,
         first_cursor,
@@ -193,54 +170,6 @@ fn quorum_by_size(
         second_cursor,
         &mut order,
         &mut drawn,
-        seats,
-        piece_bins,
-        piece_validators,
-        piece_stakes,
-    )
-}
-
-// A partition of stakes with this sum, or 11. With 0 bins nothing is shuffled and no word read.
-pub fn draw_quorum(
-    stakes: &[u64],
-    sum: u64,
-    bins: usize,
-    first: &[u64],
-    first_cursor: usize,
-    second: &[u64],
-    second_cursor: usize,
-    seats: &mut [u64],
-    piece_bins: &mut [u64],
-    piece_validators: &mut [u64],
-    piece_stakes: &mut [u64],
-) -> PartitionAnswer
-    requires { ⌜ Admitted (now stakes) sum bins (length (now seats)) (length (now «piece_bins»)) (length (now «piece_validators»)) (length (now «piece_stakes»)) ⌝ }
-    ensures { λ r. ⌜ r ≡ partitionAnswer (drop «first_cursor» (now (first .entry))) (drop «second_cursor» (now (second .entry))) (unless (lowest (emptyBin (capacity sum bins) sum bins ∷ [])) (overBins (now (stakes .entry)) (capacity sum bins) bins (drop «first_cursor» (now (first .entry))) (drop «second_cursor» (now (second .entry))))) ⌝ }
-    ensures { λ r. ⌜ now (seats .exit) ≡ bufferAfter (unless (lowest (emptyBin (capacity sum bins) sum bins ∷ [])) (overBins (now (stakes .entry)) (capacity sum bins) bins (drop «first_cursor» (now (first .entry))) (drop «second_cursor» (now (second .entry))))) seatIds (now (seats .entry)) ⌝ }
-    ensures { λ r. ⌜ now («piece_bins» .exit) ≡ bufferAfter (unless (lowest (emptyBin (capacity sum bins) sum bins ∷ [])) (overBins (now (stakes .entry)) (capacity sum bins) bins (drop «first_cursor» (now (first .entry))) (drop «second_cursor» (now (second .entry))))) pieceBins (now («piece_bins» .entry)) ⌝ }
-    ensures { λ r. ⌜ now («piece_validators» .exit) ≡ bufferAfter (unless (lowest (emptyBin (capacity sum bins) sum bins ∷ [])) (overBins (now (stakes .entry)) (capacity sum bins) bins (drop «first_cursor» (now (first .entry))) (drop «second_cursor» (now (second .entry))))) pieceValidators (now («piece_validators» .entry)) ⌝ }
-    ensures { λ r. ⌜ now («piece_stakes» .exit) ≡ bufferAfter (unless (lowest (emptyBin (capacity sum bins) sum bins ∷ [])) (overBins (now (stakes .entry)) (capacity sum bins) bins (drop «first_cursor» (now (first .entry))) (drop «second_cursor» (now (second .entry))))) pieceStakes (now («piece_stakes» .entry)) ⌝ }
-{
-    if bins == 0 {
-        return PartitionAnswer::Accepted(Partition {
-            pieces: 0,
-            first_words_read: 0,
-            second_words_read: 0,
-        });
-    }
-    let capacity = checks::capacity_of(sum, bins);
-    if refusals::bad_bins(capacity, sum, bins) {
-        return PartitionAnswer::Refused(refusals::EMPTY_BIN);
-    }
-    quorum_by_size(
-        stakes,
-        sum,
-        capacity,
-        bins,
-        first,
-        first_cursor,
-        second,
-        second_cursor,
         seats,
         piece_bins,
         piece_validators,

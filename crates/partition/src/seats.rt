@@ -1,6 +1,7 @@
 // One seat from each bin: the order, the values that are drawn, and the validators that they choose.
 use crate::answers::Partition;
 use crate::answers::PartitionAnswer;
+use crate::checks;
 use crate::fill;
 use draws::below;
 use draws::below::Below;
@@ -19,8 +20,8 @@ ghost use Rattle.draws.specs.Below.{below};
 ghost use Rattle.draws.specs.Shuffle.{shuffle};
 ghost use Rattle.draws.specs.Weighted.{ids};
 ghost use Rattle.partition.specs.Fill.{fill, pieces, binsOf, validatorsOf, stakesOf};
-ghost use Rattle.partition.specs.Seats.{idsFrom, inOrder, overBins, seatIds, pieceBins, pieceValidators, pieceStakes};
-ghost use Rattle.partition.specs.Values.{binTotal, binSums, Low, InBins, choices, seatsAt, Fillable};
+ghost use Rattle.partition.specs.Seats.{idsFrom, inOrder, overBins, parted, seatIds, pieceBins, pieceValidators, pieceStakes};
+ghost use Rattle.partition.specs.Values.{binTotal, binSums, Low, InBins, choices, seatsAt, Fillable, Partable};
 ghost use Rattle.partition.specs.Answers.{valuesSays, readAnswer, Holds, partitionAnswer};
 
 // How drawing the values of the bins ends.
@@ -173,7 +174,7 @@ fn fill_and_choose(
 
 // One seat from each of as many bins as there are seats, filled to the capacity with weights of this sum. The order is scratch space,
 // and so are the seats where a word is missing; the pieces are written once nothing can be refused any more.
-pub fn draw_bins(
+fn draw_bins(
     weights: &[u64],
     sum: u64,
     capacity: u64,
@@ -223,4 +224,54 @@ pub fn draw_bins(
         },
         Read::Refused(n) => PartitionAnswer::Refused(n),
     }
+}
+
+// The same, where nothing is known of the bins: 11 where one would be empty, and without bins nothing is shuffled and no word read.
+pub fn draw_parted(
+    weights: &[u64],
+    sum: u64,
+    first: &[u64],
+    first_cursor: usize,
+    second: &[u64],
+    second_cursor: usize,
+    order: &mut [u64],
+    seats: &mut [u64],
+    piece_bins: &mut [u64],
+    piece_validators: &mut [u64],
+    piece_stakes: &mut [u64],
+) -> PartitionAnswer
+    requires { ⌜ Partable (now weights) sum (length (now seats)) (length (now «piece_bins»)) (length (now «piece_validators»)) (length (now «piece_stakes»)) ⌝ }
+    requires { ⌜ length (now order) ≡ length (now weights) ⌝ }
+    ensures { λ r. ⌜ r ≡ partitionAnswer (drop «first_cursor» (now (first .entry))) (drop «second_cursor» (now (second .entry))) (parted (now (weights .entry)) sum (length (now (seats .entry))) (drop «first_cursor» (now (first .entry))) (drop «second_cursor» (now (second .entry)))) ⌝ }
+    ensures { λ r. ⌜ Holds (giving seatIds (parted (now (weights .entry)) sum (length (now (seats .entry))) (drop «first_cursor» (now (first .entry))) (drop «second_cursor» (now (second .entry))))) (now (seats .exit)) ⌝ }
+    ensures { λ r. ⌜ now («piece_bins» .exit) ≡ bufferAfter (parted (now (weights .entry)) sum (length (now (seats .entry))) (drop «first_cursor» (now (first .entry))) (drop «second_cursor» (now (second .entry)))) pieceBins (now («piece_bins» .entry)) ⌝ }
+    ensures { λ r. ⌜ now («piece_validators» .exit) ≡ bufferAfter (parted (now (weights .entry)) sum (length (now (seats .entry))) (drop «first_cursor» (now (first .entry))) (drop «second_cursor» (now (second .entry)))) pieceValidators (now («piece_validators» .entry)) ⌝ }
+    ensures { λ r. ⌜ now («piece_stakes» .exit) ≡ bufferAfter (parted (now (weights .entry)) sum (length (now (seats .entry))) (drop «first_cursor» (now (first .entry))) (drop «second_cursor» (now (second .entry)))) pieceStakes (now («piece_stakes» .entry)) ⌝ }
+{
+    let bins = seats.len();
+    if bins == 0 {
+        return PartitionAnswer::Accepted(Partition {
+            pieces: 0,
+            first_words_read: 0,
+            second_words_read: 0,
+        });
+    }
+    let capacity = checks::capacity_of(sum, bins);
+    if refusals::bad_bins(capacity, sum, bins) {
+        return PartitionAnswer::Refused(refusals::EMPTY_BIN);
+    }
+    draw_bins(
+        weights,
+        sum,
+        capacity,
+        first,
+        first_cursor,
+        second,
+        second_cursor,
+        order,
+        seats,
+        piece_bins,
+        piece_validators,
+        piece_stakes,
+    )
 }

@@ -5,8 +5,8 @@ use native.Mathlib.Omega.{arith}
 use denote.Ref.{now}
 use lib.ListN.{length, take, drop}
 use lib.Seq.{length-take-le}
-use Rattle.partition.specs.Seats.{overBins}
-use Rattle.partition.specs.Values.{Fillable}
+use Rattle.partition.specs.Seats.{parted}
+use Rattle.partition.specs.Values.{Partable}
 use Rattle.partition.proofs.OverLaws.{Given}
 use borrow.Author.Needs.{needs}
 use Rattle.partition.proofs.quorum.quorum_in_scratch.Statement.{statement}
@@ -35,8 +35,8 @@ store-quorum-requires c κs =
     let s = c .before .before .before .before .before .before .before .before .before .before .before .before .before .before .before in
     let d = drawn-long s in
     let q = s .pre .1 .1 .1 in (
-      subst (λ (b : ℕ). Fillable (now (s .args .stakes)) (s .args .sum) (s .args .capacity) b) (sym d) (s .pre .0),
-      (order-long s, (omega (arith, d, q .0), (omega (arith, d, q .1 .0), (omega (arith, d, q .1 .1 .0), omega (arith, d, q .1 .1 .1))))),
+      subst (λ (b : ℕ). Partable (now (s .args .stakes)) (s .args .sum) b (length (now (s .args .piece-bins))) (length (now (s .args .piece-validators))) (length (now (s .args .piece-stakes)))) (sym d) (s .pre .0),
+      (order-long s, omega (arith, d, q)),
     )
 
 same-length : tie.Need-same-length
@@ -63,9 +63,9 @@ returns c =
     let s = q .before .before .before .before .before .before .before .before .before .before .before .before .before .before .before .before in
     let f = drop (s .args .first-cursor) (now (s .args .first)) in
     let g = drop (s .args .second-cursor) (now (s .args .second)) in
-    subst (λ (b : ℕ). Given f g (overBins (now (s .args .stakes)) (s .args .capacity) b f g) (q .store-quorum .result) (now (s .args .seats)) (now (s .args .piece-bins)) (now (s .args .piece-validators)) (now (s .args .piece-stakes))
-    (q .store-quorum .last .1 .1 .1 .1 .1 .1 .1 .1 .1 .0) (q .store-quorum .last .1 .1 .1 .1 .1 .1 .1 .1 .1 .1 .0)
-    (q .store-quorum .last .1 .1 .1 .1 .1 .1 .1 .1 .1 .1 .1 .0) (q .store-quorum .last .1 .1 .1 .1 .1 .1 .1 .1 .1 .1 .1 .1 .0)) (drawn-long s) (q .store-quorum .ensures)
+    subst (λ (b : ℕ). Given f g (parted (now (s .args .stakes)) (s .args .sum) b f g) (q .store-quorum .result) (now (s .args .seats)) (now (s .args .piece-bins)) (now (s .args .piece-validators)) (now (s .args .piece-stakes))
+    (q .store-quorum .last .1 .1 .1 .1 .1 .1 .1 .1 .0) (q .store-quorum .last .1 .1 .1 .1 .1 .1 .1 .1 .1 .0)
+    (q .store-quorum .last .1 .1 .1 .1 .1 .1 .1 .1 .1 .1 .0) (q .store-quorum .last .1 .1 .1 .1 .1 .1 .1 .1 .1 .1 .1 .0)) (drawn-long s) (q .store-quorum .ensures)
 
 pub quorum-in-scratch-spec : {M : Type 1} → statement M
 quorum-in-scratch-spec =

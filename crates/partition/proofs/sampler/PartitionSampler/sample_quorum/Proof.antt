@@ -66,7 +66,8 @@ draw-quorum-requires c κs =
     let d = v .before .before in
     let s = start-of (sized-of d) in
     let q = summed d _ (v .sum .given .1) in
-    admitted (now (s .args .stakes)) _ (s .args .self .«num_bins») (places s) (sized d) (q .0) (q .1)
+    let a = admitted (now (s .args .stakes)) _ (s .args .self .«num_bins») (places s) (sized d) (q .0) (q .1) in
+    (a .partable, (a .long, a .room))
 
 enum-known-n : tie.Need-enum-known-n
 enum-known-n c = search needs
