@@ -1,0 +1,4 @@
+pub mod Seats
+pub mod Calls
+pub mod Answers
+pub mod Divided

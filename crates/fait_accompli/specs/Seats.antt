@@ -1,0 +1,65 @@
+-- "FA1". k is the committee's size, T the list's total.
+use Prim.Native.Nat.{ℕ, _+_, _-_, _*_, _/_}
+use mathlib.Core.List.{List, [], _∷_, _++_, map}
+use lib.ListN.{replicate}
+use Rattle.laws.specs.Sums.{total}
+use Rattle.words.specs.Outcome.{Outcome, accepted, next, giving}
+use Rattle.draws.specs.Weighted.{ids}
+use Rattle.stake_weighted.specs.Seats.{iid}
+use Rattle.partition.specs.Fill.{Piece}
+use Rattle.partition.specs.Seats.{capacity, Parted, overBins}
+use Rattle.fait_accompli.specs.declared.sampler.Fallback.{Fallback}
+use Rattle.fait_accompli.specs.declared.sampler.Fallback.the-variants.{Bins, Draws}
+
+-- "fixed seats floor(s × k / T)"
+abbrev pub fixed : ℕ → ℕ → ℕ → ℕ
+fixed k T s = s * k / T
+
+-- "A validator keeps s − floor(fixed × T / k)"
+abbrev pub kept : ℕ → ℕ → ℕ → ℕ
+kept k T s = s - fixed k T s * T / k
+
+-- of a whole list
+abbrev pub fixedOf : ℕ → List ℕ → List ℕ
+fixedOf k list = map (fixed k (total list)) list
+
+abbrev pub keptOf : ℕ → List ℕ → List ℕ
+keptOf k list = map (kept k (total list)) list
+
+-- "The k' = k − (all fixed) further seats"
+abbrev pub further : ℕ → List ℕ → ℕ
+further k list = k - total (fixedOf k list)
+
+-- "in list order, repeated": each id from i on as often as its number says
+abbrev pub repeated : ℕ → List ℕ → List ℕ
+repeated i [] = []
+repeated i (c ∷ cs) = replicate c i ++ repeated (i + 1) cs
+
+-- "the numbers that belong to it": the committee's size
+abbrev pub sizeOf : Fallback → ℕ
+sizeOf (Bins k) = k
+sizeOf (Draws k) = k
+
+-- "further seats come from the fallback over what is kept": over bins they read both lists, plain draws read the first and make no piece
+abbrev pub fallback : Fallback → List ℕ → List ℕ → List ℕ → Outcome Parted
+fallback (Bins k) list first second =
+    overBins (keptOf k list) (capacity (total (keptOf k list)) (further k list)) (further k list) first second
+fallback (Draws k) list first second =
+    next (iid (further k list) (keptOf k list) first) (λ ps left. accepted (record { drawn = ps; pieces = []; firstLeft = left }) second)
+
+-- the fixed seats, k', and what the fallback gives
+pub record Committee : Type 0 where
+  pub fixedSeats : List ℕ
+  pub further : ℕ
+  pub parted : Parted
+
+abbrev pub committee : Fallback → List ℕ → List ℕ → List ℕ → Outcome Committee
+committee f list first second =
+    giving (λ p. record { fixedSeats = repeated 0 (fixedOf (sizeOf f) list); further = further (sizeOf f) list; parted = p }) (fallback f list first second)
+
+-- what stands in the lent buffers: the fixed seats and then those drawn, and the pieces
+abbrev pub seatsOf : Committee → List ℕ
+seatsOf c = c .fixedSeats ++ ids (c .parted .drawn)
+
+abbrev pub piecesOf : Committee → List Piece
+piecesOf c = c .parted .pieces

@@ -1,0 +1,9 @@
+// The sampler FA1: fixed seats in proportion to stake, and the rest from a fallback.
+mod answers;
+mod fixed;
+mod sampler;
+
+pub use answers::Committee;
+pub use answers::CommitteeAnswer;
+pub use sampler::Fallback;
+pub use sampler::FaitAccompli1Sampler;
