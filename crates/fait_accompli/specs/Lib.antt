@@ -2,3 +2,4 @@ pub mod Seats
 pub mod Calls
 pub mod Answers
 pub mod Divided
+pub mod Fallbacks

@@ -4,6 +4,7 @@ use mathlib.Core.List.{List, [], _∷_, _++_, map}
 use lib.ListN.{replicate}
 use Rattle.laws.specs.Sums.{total}
 use Rattle.words.specs.Outcome.{Outcome, accepted, next, giving}
+use Rattle.draws.specs.declared.weighted.Place.{Place}
 use Rattle.draws.specs.Weighted.{ids}
 use Rattle.stake_weighted.specs.Seats.{iid}
 use Rattle.partition.specs.Fill.{Piece}
@@ -40,12 +41,15 @@ abbrev pub sizeOf : Fallback → ℕ
 sizeOf (Bins k) = k
 sizeOf (Draws k) = k
 
--- "further seats come from the fallback over what is kept": over bins they read both lists, plain draws read the first and make no piece
+-- plain draws make no piece, and leave the second list as it is
+abbrev pub unparted : List ℕ → Outcome (List Place) → Outcome Parted
+unparted second o = next o (λ ps left. accepted (record { drawn = ps; pieces = []; firstLeft = left }) second)
+
+-- "further seats come from the fallback over what is kept": over bins they read both lists, plain draws read the first
 abbrev pub fallback : Fallback → List ℕ → List ℕ → List ℕ → Outcome Parted
 fallback (Bins k) list first second =
     overBins (keptOf k list) (capacity (total (keptOf k list)) (further k list)) (further k list) first second
-fallback (Draws k) list first second =
-    next (iid (further k list) (keptOf k list) first) (λ ps left. accepted (record { drawn = ps; pieces = []; firstLeft = left }) second)
+fallback (Draws k) list first second = unparted second (iid (further k list) (keptOf k list) first)
 
 -- the fixed seats, k', and what the fallback gives
 pub record Committee : Type 0 where

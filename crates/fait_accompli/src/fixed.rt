@@ -22,7 +22,11 @@ fn fixed_seats(stake: u64, total: u64, k: u64, quotient: u64, remainder: u64) ->
     }
     let guess = stake / quotient;
     let rest = stake - guess * quotient;
-    if guess * remainder <= rest * k { guess } else { guess - 1 }
+    if guess * remainder <= rest * k {
+        guess
+    } else {
+        guess - 1
+    }
 }
 
 // What fixed seats leave of a stake: stake - floor(fixed * total / k), where total over k is given.

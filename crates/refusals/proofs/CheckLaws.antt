@@ -15,7 +15,7 @@ use Rattle.refusals.specs.declared.Refusal.{Refusal}
 use Rattle.refusals.specs.declared.Refusal.the-variants.{None, Number}
 use Rattle.refusals.specs.declared.Summed.the-variants.{Sum, Refused}
 use Rattle.refusals.specs.Answers.{summedBy}
-use Rattle.refusals.specs.Refusals.{Check, lowest, listLength, sumPast, totalZero, anyAbove, countLimit}
+use Rattle.refusals.specs.Refusals.{Check, lowest, listLength, committeeSize, sumPast, totalZero, anyAbove, countLimit}
 
 -- where no check applies, the first does not, nor any after it
 pub record Passed (c : Check) (cs : List Check) : Type 0 where
@@ -43,18 +43,30 @@ after-number (c ∷ cs) ds n e = go (c .applies) e (after-number cs ds n)
     go true e ih = e
     go false e ih = ih e
 
+-- a number that is neither above a limit nor 0
+within : (limit n : ℕ) → (ltb limit n || eqb n 0) ≡ false → (n ≤ limit) × (0 < n)
+within limit n e = go (ltb limit n) refl n refl e
+  where
+    go : (b : Bool) → ltb limit n ≡ b → (m : ℕ) → n ≡ m → (b || eqb m 0) ≡ false → (n ≤ limit) × (0 < n)
+    go true t m q e = absurd (let z : _≡_ {A = ℕ} 0 1 = cc in omega arith)
+    go false t zero q e = absurd (let z : _≡_ {A = ℕ} 0 1 = cc in omega arith)
+    go false t (suc m) q e = (ltb-false limit n t, omega arith)
+
 -- a list that is neither too long nor empty
 pub record Listed (n : ℕ) : Type 0 where
   pub long : n ≤ 4096
   pub some : 0 < n
 
 pub listed : (n : ℕ) → listLength n .applies ≡ false → Listed n
-listed n e = go (ltb 4096 n) refl n refl e
-  where
-    go : (b : Bool) → ltb 4096 n ≡ b → (m : ℕ) → n ≡ m → (b || eqb m 0) ≡ false → Listed n
-    go true t m q e = absurd (let z : _≡_ {A = ℕ} 0 1 = cc in omega arith)
-    go false t zero q e = absurd (let z : _≡_ {A = ℕ} 0 1 = cc in omega arith)
-    go false t (suc m) q e = record { long = ltb-false 4096 n t; some = omega arith }
+listed n e = let w = within 4096 n e in record { long = w .0; some = w .1 }
+
+-- a committee that is neither too large nor empty
+pub record Sized (k : ℕ) : Type 0 where
+  pub few : k ≤ 1024
+  pub some : 0 < k
+
+pub sized : (k : ℕ) → committeeSize k .applies ≡ false → Sized k
+sized k e = let w = within 1024 k e in record { few = w .0; some = w .1 }
 
 -- where no number exceeds the limit, each is at most the limit
 pub none-above : (limit : ℕ) (xs : List ℕ) → anyAbove limit xs ≡ false → (i : ℕ) → i < length xs → getD xs i 0 ≤ limit
