@@ -43,6 +43,11 @@ after-number (c ∷ cs) ds n e = go (c .applies) e (after-number cs ds n)
     go true e ih = e
     go false e ih = ih e
 
+-- where none applies, the last does not
+pub last-passed : (cs : List Check) (d : Check) → lowest (cs ++ (d ∷ [])) ≡ None → d .applies ≡ false
+last-passed [] d e = passed d [] e .head
+last-passed (c ∷ cs) d e = last-passed cs d (passed c (cs ++ (d ∷ [])) e .rest)
+
 -- a number that is neither above a limit nor 0
 within : (limit n : ℕ) → (ltb limit n || eqb n 0) ≡ false → (n ≤ limit) × (0 < n)
 within limit n e = go (ltb limit n) refl n refl e
