@@ -1,0 +1,1 @@
+// What holds of all answers together: no code, the statements stand in specs/, the theorems in proofs/.
