@@ -1,14 +1,21 @@
 -- The marked cases of the scope, as one table: what the definitions give, and what the scope says.
 use Prim.Native.Nat.{ℕ, _-_, _^_}
 use mathlib.Core.Bool.{false}
-use mathlib.Core.List.{List, [], _∷_}
+use mathlib.Core.List.{List, [], _∷_, _++_}
 use lib.IntN.{pos}
-use lib.ListN.{getD}
+use lib.ListN.{getD, replicate}
 use lib.Ieee.{Float, fin}
 use Rattle.words.specs.Outcome.{Outcome, refused, accepted}
 use Rattle.draws.specs.Below.{below}
 use Rattle.decaying_acceptance.specs.declared.tries.Seat.{Seat}
 use Rattle.decaying_acceptance.specs.Calls.{one}
+use Rattle.partition.specs.Fill.{binsOf, validatorsOf, stakesOf}
+use Rattle.partition.specs.Seats.{idsFrom, Parted, seatIds}
+use Rattle.partition.specs.Calls.{Places}
+use Rattle.partition.specs.Calls as bins
+use Rattle.fait_accompli.specs.declared.sampler.Fallback.the-variants.{Bins}
+use Rattle.fait_accompli.specs.Seats.{fixedOf, keptOf, Committee, seatsOf, piecesOf}
+use Rattle.fait_accompli.specs.Calls as fa1
 
 pub record Row : Type 0 where
   pub gives : List ℕ
@@ -24,6 +31,20 @@ abbrev pub toldSeat : Outcome Seat → List ℕ
 toldSeat (accepted s left) = 0 ∷ s .place .at ∷ s .tries ∷ left
 toldSeat (refused n) = n ∷ []
 
+-- a partition: 0, the seats, then the bins, the validators and the stakes of the pieces; or the refusal
+abbrev pub toldParted : Outcome Parted → List ℕ
+toldParted (accepted p left) = 0 ∷ (seatIds p ++ (binsOf (p .pieces) ++ (validatorsOf (p .pieces) ++ stakesOf (p .pieces))))
+toldParted (refused n) = n ∷ []
+
+-- a committee: 0, the seats that are not fixed, then the same of all seats and the pieces; or the refusal
+abbrev pub toldCommittee : Outcome Committee → List ℕ
+toldCommittee (accepted c left) = 0 ∷ c .further ∷ (seatsOf c ++ (binsOf (piecesOf c) ++ (validatorsOf (piecesOf c) ++ stakesOf (piecesOf c))))
+toldCommittee (refused n) = n ∷ []
+
+-- buffers that are long enough
+abbrev enough : Places
+enough = record { seats = 64; bins = 128; validators = 128; stakes = 128 }
+
 -- `max_samples` 2.0
 abbrev twoF : Float
 twoF = fin false 1 (pos 1)
@@ -38,6 +59,28 @@ table =
     record { gives = told (below 10 (13 ∷ [])); says = 0 ∷ 3 ∷ [] }
     -- the same after a word that is skipped
     ∷ record { gives = told (below 10 (18446744073709551610 ∷ 13 ∷ [])); says = 0 ∷ 3 ∷ [] }
+    -- k = 49: 49 stakes of 1 have one fixed seat each, and no word is read
+    ∷ record { gives = toldCommittee (fa1.quorum (Bins 49) (replicate 49 1) enough [] []); says = 0 ∷ 0 ∷ idsFrom 0 49 }
+    -- total 5 in 4: the last bin would be empty
+    ∷ record { gives = toldParted (bins.quorum (5 ∷ []) 4 enough [] (0 ∷ 0 ∷ 0 ∷ 0 ∷ [])); says = 11 ∷ [] }
+    -- 5 in 3: bins of 2, 2 and 1
+    ∷ record { gives = toldParted (bins.quorum (5 ∷ []) 3 enough [] (0 ∷ 0 ∷ 0 ∷ [])); says = 0 ∷ 0 ∷ 0 ∷ 0 ∷ 0 ∷ 1 ∷ 2 ∷ 0 ∷ 0 ∷ 0 ∷ 2 ∷ 2 ∷ 1 ∷ [] }
+    -- 7 in 4: bins of 2, 2, 2 and 1
+    ∷ record {
+      gives = toldParted (bins.quorum (7 ∷ []) 4 enough [] (0 ∷ 0 ∷ 0 ∷ 0 ∷ []));
+      says = 0 ∷ 0 ∷ 0 ∷ 0 ∷ 0 ∷ 0 ∷ 1 ∷ 2 ∷ 3 ∷ 0 ∷ 0 ∷ 0 ∷ 0 ∷ 2 ∷ 2 ∷ 2 ∷ 1 ∷ [];
+    }
+    -- stakes 3, 0, 4 in 2 bins, unshuffled by the words 1 and 2: bin 0 holds 3 of validator 0 and 1 of 2, bin 1 holds 3 of 2
+    ∷ record { gives = toldParted (bins.quorum (3 ∷ 0 ∷ 4 ∷ []) 2 enough (1 ∷ 2 ∷ []) (3 ∷ 0 ∷ [])); says = 0 ∷ 2 ∷ 2 ∷ 0 ∷ 0 ∷ 1 ∷ 0 ∷ 2 ∷ 2 ∷ 3 ∷ 1 ∷ 3 ∷ [] }
+    -- stakes 5, 3, 2 with k = 4: fixed 2, 1, 0
+    ∷ record { gives = fixedOf 4 (5 ∷ 3 ∷ 2 ∷ []); says = 2 ∷ 1 ∷ 0 ∷ [] }
+    -- kept 0, 1, 2
+    ∷ record { gives = keptOf 4 (5 ∷ 3 ∷ 2 ∷ []); says = 0 ∷ 1 ∷ 2 ∷ [] }
+    -- one bin: with the order 0, 1, 2 it holds 1 of validator 1 and 2 of 2, and the value 1 chooses 2
+    ∷ record {
+      gives = toldCommittee (fa1.quorum (Bins 4) (5 ∷ 3 ∷ 2 ∷ []) enough (1 ∷ 2 ∷ []) (1 ∷ []));
+      says = 0 ∷ 1 ∷ 0 ∷ 0 ∷ 1 ∷ 2 ∷ 0 ∷ 0 ∷ 1 ∷ 2 ∷ 1 ∷ 2 ∷ [];
+    }
     -- count 1, `max_samples` 2.0: word 2^63 accepted
     ∷ record { gives = toldSeat (countOne (2 ^ 63)); says = 0 ∷ 0 ∷ 1 ∷ [] }
     -- 2^63 − 1 rejected
