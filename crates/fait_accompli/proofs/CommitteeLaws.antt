@@ -1,9 +1,9 @@
 -- Laws of a committee by what its fallback gives, and of what holds before the fallback is asked.
-use Prim.Native.Nat.{ℕ, zero, suc, _+_, _-_, _*_, _/_, _≤_, _<_}
+use Prim.Native.Nat.{ℕ, zero, suc, _-_, _*_, _/_, _≤_, _<_}
 use mathlib.Core.Path.{_≡_, refl, sym, ap, subst, _∙_}
-use mathlib.Core.List.{List, [], _∷_, _++_}
+use mathlib.Core.List.{List, _++_}
 use native.Mathlib.Omega.{arith}
-use lib.ListN.{length, take, drop, length-map, length-append}
+use lib.ListN.{length, take, drop, length-map}
 use lib.Seq.{take-at}
 use Rattle.laws.specs.Sums.{total}
 use Rattle.refusals.specs.declared.Refusal.{Refusal}
@@ -12,7 +12,6 @@ use Rattle.refusals.specs.Refusals.{lowest}
 use Rattle.words.specs.Outcome.{Outcome, refused, accepted, giving, unless, bufferAfter}
 use Rattle.partition.specs.Seats.{Parted}
 use Rattle.partition.specs.Seats as bins
-use Rattle.partition.specs.Answers.{partitionAnswer, Holds}
 use Rattle.partition.specs.declared.answers.Partition.{Partition}
 use Rattle.partition.specs.declared.answers.PartitionAnswer.{PartitionAnswer}
 use Rattle.partition.specs.declared.answers.PartitionAnswer.the-variants as parted
@@ -23,7 +22,7 @@ use Rattle.fait_accompli.specs.declared.answers.CommitteeAnswer.the-vari
 use Rattle.fait_accompli.specs.Seats.{fixedOf, keptOf, further, repeated, sizeOf, fallback, Committee, seatsOf}
 use Rattle.fait_accompli.specs.Calls.{binChecks}
 use Rattle.fait_accompli.specs.Answers.{committeeAnswer, pieceBins, pieceValidators, pieceStakes}
-use Rattle.fait_accompli.specs.Fallbacks.{fallbackOver, seatedAfter, Placeable, Drawable, Roomy, Admitted, committeeOver}
+use Rattle.fait_accompli.specs.Fallbacks.{fallbackOver, Placeable, Drawable, Roomy, Admitted, committeeOver}
 use Rattle.fait_accompli.proofs.KeptLaws.{fixed-le, kept-some}
 use Rattle.fait_accompli.proofs.KeepLaws.{repeated-long}
 use Rattle.fait_accompli.proofs.FurtherLaws.{Ends}

@@ -1,5 +1,5 @@
 -- Exact floors without a product past 64 bits: T is q × k + r, with r below k.
-use Prim.Native.Nat.{ℕ, zero, suc, _+_, _-_, _*_, _/_, _%_, _^_, _≤_, _<_}
+use Prim.Native.Nat.{ℕ, zero, suc, _+_, _-_, _*_, _/_, _^_, _≤_, _<_}
 use mathlib.Core.Path.{_≡_, refl, sym, ap, _∙_}
 use native.Mathlib.Nat.{div-add-mod', mod-lt, mul-add-div-right, div-eq-of-lt, mul-le-mul-left, mul-le-mul-right, add-zero}
 use native.Mathlib.Omega.{arith}

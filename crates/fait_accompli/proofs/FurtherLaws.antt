@@ -1,13 +1,13 @@
 -- Laws of the seats that are not fixed, and of the part of a committee that they are written to.
-use Prim.Native.Nat.{ℕ, _+_, _-_, _≤_, _<_}
+use Prim.Native.Nat.{ℕ, _-_}
 use mathlib.Core.Path.{_≡_, refl, sym, ap, subst, _∙_}
-use mathlib.Core.List.{List, [], _∷_, _++_, append-nil}
+use mathlib.Core.List.{List, [], _++_, append-nil}
 use native.Mathlib.Nat.{sub-self}
 use native.Mathlib.Omega.{arith}
 use lib.ListN.{length, take, drop, length-drop, drop-of-length-le}
 use lib.Seq.{length-take-le, take-all}
 use Rattle.laws.specs.Sums.{runningSums}
-use Rattle.words.specs.Outcome.{Outcome, refused, accepted, next, giving, bufferAfter, wordsRead}
+use Rattle.words.specs.Outcome.{Outcome, refused, accepted, giving, bufferAfter}
 use Rattle.draws.specs.declared.weighted.Place.{Place}
 use Rattle.draws.specs.Weighted.{ids}
 use Rattle.stake_weighted.specs.Seats.{iid, iidSeats}

@@ -1,5 +1,5 @@
 -- Laws of the two loops over fixed seats, as the code makes them.
-use Prim.Native.Nat.{ℕ, zero, suc, _+_, _-_, _*_, _/_, _%_, _≤_, _<_}
+use Prim.Native.Nat.{ℕ, suc, _+_, _-_, _*_, _/_, _%_, _≤_, _<_}
 use mathlib.Core.Path.{_≡_, refl, sym, ap, subst, _∙_}
 use mathlib.Core.Bool.{Bool, true, false}
 use mathlib.Core.List.{List, [], _∷_, _++_, map}
@@ -14,7 +14,7 @@ use Rattle.laws.specs.Sums.{total, sumOf}
 use Rattle.laws.proofs.Sums.{total-at, total-take-suc, total-take-le}
 use Rattle.laws.proofs.Buffers.{Stored, stored-none, stored-next, stored-all, stored-whole}
 use Rattle.fait_accompli.specs.Divided.{Divided}
-use Rattle.fait_accompli.specs.Seats.{fixed, kept, fixedOf, keptOf, repeated}
+use Rattle.fait_accompli.specs.Seats.{fixed, kept, repeated}
 use Rattle.fait_accompli.proofs.KeptLaws.{taken-le, fixed-few}
 
 -- ---- what each validator holds and keeps

@@ -1,13 +1,13 @@
 -- The arithmetic of fixed seats and kept stake.
-use Prim.Native.Nat.{ℕ, zero, suc, _+_, _-_, _*_, _/_, _%_, _≤_, _<_}
-use mathlib.Core.Path.{_≡_, refl, sym, ap, _∙_}
-use mathlib.Core.List.{List, [], _∷_, map}
-use native.Mathlib.Nat.{div-add-mod', div-mul-le-self, mod-lt, mul-mod-left, mul-le-mul-left, mul-le-mul-right, le-of-mul-le-mul-right, le-of-mul-le-mul-left, lt-of-mul-lt-mul-right, zero-mul, zero-div, zero-mod}
+use Prim.Native.Nat.{ℕ, suc, _+_, _*_, _/_, _%_, _≤_, _<_}
+use mathlib.Core.Path.{_≡_, ap, _∙_}
+use mathlib.Core.List.{List, [], _∷_}
+use native.Mathlib.Nat.{div-add-mod', div-mul-le-self, mod-lt, mul-mod-left, mul-le-mul-right, le-of-mul-le-mul-right, le-of-mul-le-mul-left, lt-of-mul-lt-mul-right, zero-mul, zero-div, zero-mod}
 use native.Mathlib.Omega.{arith}
-use lib.ListN.{length, getD}
 use Rattle.laws.specs.Sums.{total, sumOf}
 use Rattle.partition.specs.Seats.{capacity}
 use Rattle.partition.proofs.CallLaws.{capacity-fits}
+use Rattle.fait_accompli.specs.Laws.{NothingKept}
 use Rattle.fait_accompli.specs.Seats.{fixed, kept, fixedOf, keptOf, further}
 
 -- what the fixed seats leave of s × k
@@ -99,3 +99,6 @@ module _ (k : ℕ) (list : List ℕ) (seat : 0 < k) (some : 0 < total list) wher
       let cap : T ≤ c * k = le-of-mul-le-mul-left {k = b} wide drawn in
       let less : kept k T s * k < suc c * k = omega (arith, kept-times k T seat s, mod-lt (s * k) some, mod-lt (fixed k T s * T) seat) in
       omega (arith, lt-of-mul-lt-mul-right k less)
+
+pub nothing-kept : NothingKept
+nothing-kept k list seat some h = kept-some k list seat some h

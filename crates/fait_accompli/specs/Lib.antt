@@ -3,3 +3,4 @@ pub mod Calls
 pub mod Answers
 pub mod Divided
 pub mod Fallbacks
+pub mod Laws

@@ -1,5 +1,5 @@
 -- One weighted draw from each bin is a value for each bin, and then the piece that the value chooses among all pieces.
-use Prim.Native.Nat.{ℕ, zero, suc, _+_, _-_, _*_, _≤_, _<_, min}
+use Prim.Native.Nat.{ℕ, zero, suc, _+_, _*_, _≤_, _<_}
 use mathlib.Core.Path.{_≡_, refl, sym, ap, ap₂, _∙_}
 use mathlib.Core.List.{List, [], _∷_, _++_, map, append-assoc}
 use native.Mathlib.Omega.{arith}
@@ -15,8 +15,8 @@ use Rattle.draws.proofs.WeightedLaws.{Chosen, chosen-is, chosen-before, chosen-
 use Rattle.partition.specs.Fill.{Share, Piece, taken, left, fill, numbered, pieces, validatorsOf, stakesOf}
 use Rattle.partition.specs.Seats.{shareStakes, holder, seatOf, seat}
 use Rattle.partition.specs.Values.{binTotal, binSums, Low, InBins, choices, seatsAt}
-use Rattle.partition.proofs.FillLaws.{taken-total, left-total, fill-adds, measure, stake-additive}
-use Rattle.partition.proofs.ValueLaws.{sums-at, sums-long}
+use Rattle.partition.proofs.FillLaws.{taken-total, left-total, fill-adds, stake-additive}
+use Rattle.partition.proofs.ValueLaws.{sums-at}
 
 pub seats-by-values : (bins : List (List Share)) (ws : List ℕ) → each seat bins ws ≡ giving (choices bins) (each below (map binTotal bins) ws)
 seats-by-values [] ws = refl

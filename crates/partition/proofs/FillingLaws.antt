@@ -2,13 +2,12 @@
 use Prim.Native.Nat.{ℕ, zero, suc, _+_, _-_, _*_, _≤_, _<_}
 use mathlib.Core.Path.{_≡_, refl, sym, ap, _∙_}
 use mathlib.Core.Bool.{Bool, true, false, cond}
-use mathlib.Core.List.{List, [], _∷_, _++_, map, append-assoc}
+use mathlib.Core.List.{List, [], _∷_, _++_, map}
 use native.Mathlib.Numerals.{add-one}
 use native.Mathlib.Omega.{arith}
 use lib.Dec.{ltb}
 use lib.ListN.{length, getD, set, drop, length-map, drop-of-length-le, length-drop, List·getD-map}
 use lib.Seq.{drop-cons, drop-drop, getD-drop}
-use borrow.Author.Tests.{ltb-true, ltb-false}
 use Rattle.laws.specs.Sums.{total}
 use Rattle.laws.specs.Counts.{consIf}
 use Rattle.laws.proofs.Buffers.{Stored, stored-none, stored-next, stored-all}

@@ -11,7 +11,7 @@ use lib.Seq.{drop-cons}
 use borrow.Author.Tests.{ltb-true, ltb-false, lt-ltb, eqb-true, eqb-false, ne-eqb}
 use Rattle.laws.specs.Sums.{total, sumOf}
 use Rattle.laws.specs.Orders.{Permutation, AllBelow}
-use Rattle.laws.proofs.Buffers.{Stored, stored-none, stored-next}
+use Rattle.laws.proofs.Buffers.{Stored, stored-next}
 use Rattle.partition.specs.Seats.{idsFrom, inOrder, shareStakes}
 use Rattle.partition.proofs.FillLaws.{measure, tally, Within}
 

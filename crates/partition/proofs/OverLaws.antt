@@ -1,11 +1,10 @@
 -- Laws of the seats over bins, by what the shuffle and the draws of the values give.
-use Prim.Native.Nat.{ℕ, zero, suc, _+_, _-_, _*_, _≤_, _<_}
+use Prim.Native.Nat.{ℕ, zero, suc, _*_, _≤_, _<_}
 use mathlib.Core.Path.{_≡_, refl, sym, ap, _∙_}
 use mathlib.Core.List.{List, [], _∷_, _++_, map}
 use native.Mathlib.Nat.{sub-self}
 use native.Mathlib.Omega.{arith}
 use lib.ListN.{length, getD, drop, length-map}
-use Rattle.laws.specs.Sums.{total}
 use Rattle.laws.specs.Orders.{Permutation, AllBelow}
 use Rattle.words.specs.Outcome.{Outcome, refused, accepted, next, each, giving, bufferAfter, wordsRead}
 use Rattle.draws.specs.Below.{below}

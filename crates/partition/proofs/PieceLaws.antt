@@ -2,25 +2,24 @@
 use Prim.Native.Nat.{ℕ, zero, suc, _+_, _-_, _*_, _≤_, _<_, min}
 use mathlib.Core.Path.{_≡_, refl, sym, ap, ap₂, _∙_}
 use mathlib.Core.Bool.{Bool, true, false, cond}
-use mathlib.Core.List.{List, [], _∷_, _++_, map, append-nil}
+use mathlib.Core.List.{List, [], _∷_, _++_, append-nil}
 use native.Mathlib.Nat.{mul-le-mul-right}
 use native.Mathlib.Omega.{arith}
 use lib.Dec.{eqb}
 use lib.ListN.{length, getD, length-map, List·getD-eq-default}
 use borrow.Author.Tests.{eq-eqb, ne-eqb}
 use Rattle.laws.specs.Sums.{total, sumOf}
-use Rattle.laws.specs.Counts.{countBelow, count, consIf, those}
+use Rattle.laws.specs.Counts.{countBelow, count}
 use Rattle.laws.specs.Orders.{Permutation}
 use Rattle.laws.proofs.Lists.{sum-append, those-append, those-sum, those-length}
 use Rattle.refusals.specs.declared.Refusal.the-variants.{None}
 use Rattle.refusals.specs.Refusals.{lowest, emptyBin}
 use Rattle.refusals.proofs.CheckLaws.{last-passed}
-use Rattle.words.specs.Outcome.{Outcome, accepted, next, each, giving}
+use Rattle.words.specs.Outcome.{accepted, each, giving}
 use Rattle.words.proofs.Outcomes.{Went, went, unrefused}
 use Rattle.words.proofs.EachLaws.{both, each-long}
 use Rattle.draws.specs.declared.weighted.Place.{Place}
-use Rattle.draws.specs.Below.{below}
-use Rattle.draws.specs.Weighted.{chosen, weighted, weightWhere, ids, Placed}
+use Rattle.draws.specs.Weighted.{weighted, weightWhere, ids, Placed}
 use Rattle.draws.specs.Shuffle.{shuffle}
 use Rattle.draws.proofs.Fairness.{counting}
 use Rattle.draws.proofs.WeightedLaws.{placed}
@@ -28,8 +27,8 @@ use Rattle.draws.proofs.ShuffleLaws.{shuffle-permutes}
 use Rattle.partition.specs.Fill.{Share, Piece, fill, numbered, pieces, validatorsOf, stakesOf}
 use Rattle.partition.specs.Seats.{capacity, idsFrom, inOrder, shareStakes, holder, seatOf, seat, Parted, overBins, seatIds}
 use Rattle.partition.specs.Calls.{Places, quorumChecks}
-use Rattle.partition.specs.Pieces.{inBin, of, sumOfPieces, chooses, Filled, Partitioned, PartitionsFilled}
-use Rattle.partition.proofs.FillLaws.{Additive, measure, tally, number, fill-sums, fill-long, fill-adds, fill-single, fill-two, fill-number, fill-positive, pieces-number}
+use Rattle.partition.specs.Pieces.{inBin, of, sumOfPieces, chooses, Filled, PartitionsFilled}
+use Rattle.partition.proofs.FillLaws.{Additive, measure, tally, fill-sums, fill-long, fill-adds, fill-single, fill-two, fill-positive}
 use Rattle.partition.proofs.OrderLaws.{order-long, order-total, order-weight, order-once, order-within}
 use Rattle.partition.proofs.CallLaws.{bySize, bySum, capacity-fits, last-some}
 use Rattle.partition.proofs.FillingLaws.{whole-number}

@@ -20,7 +20,7 @@ use Rattle.words.proofs.EachLaws.{Drawing, drawing-none, drawing-next, drawing-
 use Rattle.draws.specs.Below.{below}
 use Rattle.draws.specs.Weighted.{chosen}
 use Rattle.draws.proofs.BelowLaws.{drawn-lt}
-use Rattle.draws.proofs.WeightedLaws.{Chosen, chosen-at}
+use Rattle.draws.proofs.WeightedLaws.{chosen-at}
 use Rattle.partition.specs.Values.{binSums, InBins, seatsAt}
 
 -- ---- the sums of the bins

@@ -1,8 +1,12 @@
-// Draws a validator and two committees from a sample list of stakes and words, and prints them.
+// Draws a validator and four committees from a sample list of stakes and words, and prints them.
 use decaying_acceptance::DecayingAcceptanceSampler;
 use decaying_acceptance::MAX_TRIES_PER_SAMPLE;
 use decaying_acceptance::QuorumAnswer as DecayingAnswer;
+use fait_accompli::CommitteeAnswer;
+use fait_accompli::FaitAccompli1Sampler;
 use libc::STDOUT_FILENO;
+use partition::PartitionAnswer;
+use partition::PartitionSampler;
 use stake_weighted::IidQuorumSampler;
 use stake_weighted::QuorumAnswer;
 use stake_weighted::SampleAnswer;
@@ -29,6 +33,22 @@ fn print_list(name: &[u8], list: &[u64]) {
         i += 1;
     }
     print(b"\n");
+}
+
+// Each piece of a bin: the bin, the validator and the stake.
+fn print_pieces(bins: &[u64], validators: &[u64], stakes: &[u64], count: usize) {
+    let mut i = 0;
+    while i < count {
+        if bins.len() <= i || validators.len() <= i || stakes.len() <= i {
+            return;
+        }
+        print(b"bin ");
+        io::print_decimal(STDOUT_FILENO, bins[i]);
+        print(b": validator ");
+        io::print_decimal(STDOUT_FILENO, validators[i]);
+        print_number(b" with", stakes[i]);
+        i += 1;
+    }
 }
 
 fn show_sample(stakes: &[u64], list: &[u64]) {
@@ -78,6 +98,64 @@ fn show_decaying(stakes: &[u64], list: &[u64]) {
     }
 }
 
+// The list is shuffled by the words from place 0 on, and the seats are drawn by those from place 10 on.
+fn show_bins(stakes: &[u64], list: &[u64]) {
+    print(b"\none validator from each of 4 bins\n");
+    let sampler = PartitionSampler::new(4);
+    let mut seats = [0u64; 4];
+    let mut bins = [0u64; 9];
+    let mut validators = [0u64; 9];
+    let mut pieces = [0u64; 9];
+    match sampler.sample_quorum(
+        stakes,
+        list,
+        0,
+        list,
+        10,
+        &mut seats,
+        &mut bins,
+        &mut validators,
+        &mut pieces,
+    ) {
+        PartitionAnswer::Accepted(partition) => {
+            print_list(b"seats:", &seats);
+            print_pieces(&bins, &validators, &pieces, partition.pieces);
+        }
+        PartitionAnswer::Refused(number) => {
+            print_number(b"refused:", number);
+        }
+    }
+}
+
+fn show_fait_accompli(stakes: &[u64], list: &[u64]) {
+    print(b"\na committee of 16, fixed seats first, the others from bins\n");
+    let sampler = FaitAccompli1Sampler::new_with_partition_fallback(16);
+    let mut seats = [0u64; 16];
+    let mut bins = [0u64; 21];
+    let mut validators = [0u64; 21];
+    let mut pieces = [0u64; 21];
+    match sampler.sample_quorum(
+        stakes,
+        list,
+        0,
+        list,
+        10,
+        &mut seats,
+        &mut bins,
+        &mut validators,
+        &mut pieces,
+    ) {
+        CommitteeAnswer::Accepted(committee) => {
+            print_list(b"seats:", &seats);
+            print_number(b"not fixed:", committee.further as u64);
+            print_pieces(&bins, &validators, &pieces, committee.pieces);
+        }
+        CommitteeAnswer::Refused(number) => {
+            print_number(b"refused:", number);
+        }
+    }
+}
+
 // Thirty words.
 fn words() -> [u64; 30] {
     [
@@ -122,4 +200,6 @@ fn main() {
     show_sample(&stakes, &list);
     show_iid(&stakes, &list);
     show_decaying(&stakes, &list);
+    show_bins(&stakes, &list);
+    show_fait_accompli(&stakes, &list);
 }

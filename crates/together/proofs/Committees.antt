@@ -1,35 +1,34 @@
 -- Demand 3 on committees.
-use Prim.Native.Nat.{ℕ, zero, suc, _+_, _-_, _*_, _%_, _≤_, _<_}
+use Prim.Native.Nat.{ℕ, zero, suc, _+_, _≤_, _<_}
 use mathlib.Core.Path.{_≡_, refl, sym, ap, subst, _∙_}
 use mathlib.Core.Bool.{Bool, true, false, cond}
 use mathlib.Core.List.{List, [], _∷_, _++_, map}
 use native.Mathlib.Omega.{arith}
 use lib.Dec.{eqb}
-use lib.ListN.{length, getD, take, drop, replicate, length-append, length-replicate, List·getD-map}
-use lib.Seq.{take-append-seam, take-at}
+use lib.ListN.{length, getD, take, drop, replicate, length-append, List·getD-map}
+use lib.Seq.{take-at}
 use borrow.Author.Tests.{eq-eqb, ne-eqb}
 use Rattle.laws.specs.Sums.{total, sumOf}
-use Rattle.laws.specs.Counts.{countBelow, count}
+use Rattle.laws.specs.Counts.{count}
 use Rattle.laws.proofs.Sums.{total-at}
 use Rattle.laws.proofs.Counts.{count-none}
 use Rattle.laws.proofs.Lists.{sum-append}
 use Rattle.refusals.specs.declared.Refusal.the-variants.{None}
 use Rattle.refusals.specs.Refusals.{lowest, listLength, committeeSize, shortBuffer, sumPast, totalZero, emptyBin}
 use Rattle.refusals.proofs.CheckLaws.{passed, last-passed, sized, summed}
-use Rattle.words.specs.Outcome.{Outcome, refused, accepted, giving, bufferAfter}
+use Rattle.words.specs.Outcome.{Outcome, refused, accepted, bufferAfter}
 use Rattle.words.proofs.Outcomes.{Went, went, unrefused}
-use Rattle.draws.specs.Weighted.{ids}
 use Rattle.partition.specs.Fill.{Piece, binsOf, validatorsOf, stakesOf}
 use Rattle.partition.specs.Seats.{capacity, Parted, overBins, seatIds}
-use Rattle.partition.specs.Pieces.{inBin, of, sumOfPieces, chooses, Filled}
+use Rattle.partition.specs.Pieces.{sumOfPieces, Filled}
 use Rattle.partition.specs.Calls.{Places, shortPieces}
 use Rattle.partition.proofs.CallLaws.{capacity-fits, last-some}
 use Rattle.partition.proofs.PieceLaws.{over, over-filled, over-none, over-two, over-seats}
 use Rattle.fait_accompli.specs.declared.sampler.Fallback.the-variants.{Bins}
 use Rattle.fait_accompli.specs.declared.answers.Committee as answer
-use Rattle.fait_accompli.specs.declared.answers.CommitteeAnswer.the-variants.{Accepted, Refused}
+use Rattle.fait_accompli.specs.declared.answers.CommitteeAnswer.the-variants.{Accepted}
 use Rattle.fait_accompli.specs.Seats.{fixed, kept, fixedOf, keptOf, further, repeated, fallback, Committee, committee, seatsOf, piecesOf}
-use Rattle.fait_accompli.specs.Calls.{sizeChecks, sumChecks, binChecks, quorumChecks, quorum}
+use Rattle.fait_accompli.specs.Calls.{sumChecks, binChecks, quorumChecks, quorum}
 use Rattle.fait_accompli.specs.Answers.{committeeAnswer, pieceBins, pieceValidators, pieceStakes}
 use Rattle.fait_accompli.proofs.KeptLaws.{rest, fixed-zero, kept-zero, rest-zero, kept-none, fixed-le, rest-sum, kept-le}
 use Rattle.fait_accompli.proofs.KeepLaws.{repeated-long}

@@ -1,11 +1,10 @@
 -- `fait_accompli::fixed::keep` meets its contract. The invariant: the first i numbers of both lists are written, and summed.
-use Prim.Native.Nat.{ℕ, _-_, _/_, _%_}
-use mathlib.Core.Path.{_≡_, sym, ap, _∙_}
+use Prim.Native.Nat.{_-_}
+use mathlib.Core.Path.{_≡_}
 use native.Mathlib.Omega.{arith}
 use denote.Ref.{now}
 use lib.ListN.{length, getD}
 use Rattle.laws.specs.Sums.{total}
-use Rattle.fait_accompli.specs.Divided.{Divided}
 use Rattle.fait_accompli.specs.Seats.{fixed, kept}
 use Rattle.fait_accompli.proofs.KeptLaws.{fixed-zero, kept-zero, fixed-le, kept-most}
 use Rattle.fait_accompli.proofs.KeepLaws.{Mapping, mapping-none, mapping-next, mapping-all, sum-most, divided, in-sum, keepable, held-is, kept-is}

@@ -1,6 +1,6 @@
 -- `fait_accompli::fixed::kept_stake` meets its contract.
-use Prim.Native.Nat.{ℕ, _+_, _-_, _*_, _/_}
-use mathlib.Core.Path.{_≡_, sym, ap}
+use Prim.Native.Nat.{ℕ, _+_, _-_, _*_}
+use mathlib.Core.Path.{sym, ap}
 use native.Mathlib.Nat.{zero-mul, zero-div}
 use native.Mathlib.Omega.{arith}
 use Rattle.fait_accompli.proofs.FloorLaws.{taken-is, small-product}

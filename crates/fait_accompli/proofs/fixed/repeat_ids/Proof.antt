@@ -1,5 +1,5 @@
 -- `fait_accompli::fixed::repeat_ids` meets its contract. The invariant: the first ids are written, and those still to come are the others.
-use Prim.Native.Nat.{ℕ, _+_, _-_, _≤_, _<_}
+use Prim.Native.Nat.{_+_, _-_, _≤_, _<_}
 use native.Mathlib.Omega.{arith}
 use denote.Ref.{now}
 use lib.ListN.{length}

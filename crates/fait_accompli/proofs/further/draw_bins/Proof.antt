@@ -1,11 +1,9 @@
 -- `fait_accompli::further::draw_bins` meets its contract: the seats drawn are the part of the committee that is lent.
 use Prim.Native.Nat.{ℕ, _-_}
-use mathlib.Core.Path.{_≡_, sym, subst, _∙_}
-use mathlib.Core.List.{List, _++_}
+use mathlib.Core.Path.{sym, subst}
 use denote.Ref.{now}
 use lib.ListN.{length, take, drop}
-use Rattle.words.specs.Outcome.{Outcome}
-use Rattle.partition.specs.Seats.{Parted, parted}
+use Rattle.partition.specs.Seats.{parted}
 use Rattle.partition.specs.Values.{Partable}
 use Rattle.partition.specs.Answers.{Holds}
 use Rattle.partition.proofs.OverLaws.{Says}

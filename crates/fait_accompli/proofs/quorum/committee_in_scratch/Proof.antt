@@ -1,9 +1,7 @@
 -- `fait_accompli::quorum::committee_in_scratch` meets its contract: the scratch space has a place for each validator and each seat.
-use Prim.Native.Nat.{ℕ, _≤_}
-use mathlib.Core.Path.{_≡_, sym, _∙_}
-use mathlib.Core.List.{List}
+use mathlib.Core.Path.{sym, _∙_}
 use denote.Ref.{now}
-use lib.ListN.{length, take}
+use lib.ListN.{length}
 use lib.Seq.{length-take-le}
 use borrow.Author.Needs.{needs}
 use Rattle.fait_accompli.proofs.quorum.committee_in_scratch.Statement.{statement}

@@ -1,5 +1,4 @@
 -- `fait_accompli::quorum::draw_quorum` meets its contract: each scratch array has enough places.
-use mathlib.Core.Path.{sym}
 use native.Mathlib.Omega.{arith}
 use borrow.Author.Tests.{leb-true}
 use borrow.Author.Needs.{needs}

@@ -1,20 +1,18 @@
 -- `fait_accompli::quorum::fill_committee` meets its contract.
 use Prim.Native.Nat.{ℕ, _-_, _≤_}
 use mathlib.Core.Path.{_≡_, sym, ap, subst, _∙_}
-use mathlib.Core.List.{List, _++_}
+use mathlib.Core.List.{List}
 use native.Mathlib.Omega.{arith}
 use denote.Ref.{now}
-use lib.ListN.{length, take, drop}
+use lib.ListN.{length, drop}
 use Rattle.laws.specs.Sums.{total}
 use Rattle.words.specs.Outcome.{Outcome, bufferAfter}
-use Rattle.partition.specs.Seats.{Parted}
 use Rattle.partition.specs.declared.answers.PartitionAnswer.{PartitionAnswer}
 use Rattle.fait_accompli.specs.declared.answers.CommitteeAnswer.the-variants as answer
-use Rattle.fait_accompli.specs.Seats.{fixedOf, keptOf, further, repeated, sizeOf, Committee, seatsOf}
+use Rattle.fait_accompli.specs.Seats.{fixedOf, keptOf, repeated, sizeOf, Committee, seatsOf}
 use Rattle.fait_accompli.specs.Answers.{committeeAnswer, pieceBins, pieceValidators, pieceStakes}
-use Rattle.fait_accompli.specs.Fallbacks.{fallbackOver, committeeOver}
 use Rattle.fait_accompli.proofs.FurtherLaws.{Ends}
-use Rattle.fait_accompli.proofs.CommitteeLaws.{seated, drawnBy, over-is, Given, given-accepted, given-refused, fixed-few, drawable, Fronted, fronted, ends-as}
+use Rattle.fait_accompli.proofs.CommitteeLaws.{drawnBy, over-is, Given, given-accepted, given-refused, fixed-few, drawable, Fronted, fronted, ends-as}
 use borrow.Author.Needs.{needs}
 use Rattle.fait_accompli.proofs.quorum.fill_committee.Statement.{statement}
 use Rattle.fait_accompli.proofs.quorum.fill_committee.Tie as tie

@@ -1,10 +1,10 @@
 -- `partition::fill::fill` meets its contract. The invariant: the pieces stored are the first of the fill, and those still to come are the others.
-use Prim.Native.Nat.{ℕ, _+_, _-_, _≤_}
-use mathlib.Core.Path.{_≡_, refl, sym, ap, _∙_}
+use Prim.Native.Nat.{_+_, _-_}
+use mathlib.Core.Path.{refl}
 use native.Mathlib.Omega.{arith}
 use denote.Ref.{now}
-use lib.ListN.{length, getD}
-use Rattle.partition.proofs.FillingLaws.{Filling, filling-none, filling-fits, filling-over, filling-all, room-fits, room-over, next-inside, whole, Roomy, roomy}
+use lib.ListN.{length}
+use Rattle.partition.proofs.FillingLaws.{Filling, filling-none, filling-fits, filling-over, filling-all, room-fits, room-over, whole, Roomy, roomy}
 use borrow.Author.Needs.{needs}
 use Rattle.partition.proofs.fill.fill.Statement.{statement}
 use Rattle.partition.proofs.fill.fill.Tie as tie

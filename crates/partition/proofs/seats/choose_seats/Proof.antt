@@ -1,6 +1,5 @@
 -- `partition::seats::choose_seats` meets its contract. The invariant: the first j values are replaced, and no piece before `at` holds a later value.
-use Prim.Native.Nat.{ℕ, _+_, _-_, _<_}
-use mathlib.Core.Path.{_≡_, sym, ap, _∙_}
+use Prim.Native.Nat.{_+_, _-_, _<_}
 use native.Mathlib.Omega.{arith}
 use denote.Ref.{now}
 use lib.ListN.{length}

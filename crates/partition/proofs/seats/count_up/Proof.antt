@@ -1,7 +1,6 @@
 -- `partition::seats::count_up` meets its contract. The invariant: the first i ids are stored.
 use Prim.Native.Nat.{_-_}
 use native.Mathlib.Omega.{arith}
-use denote.Ref.{now}
 use lib.ListN.{length}
 use Rattle.laws.proofs.Buffers.{Stored, stored-none, stored-whole}
 use Rattle.partition.specs.Seats.{idsFrom}

@@ -5,10 +5,9 @@ use mathlib.Core.List.{List}
 use native.Mathlib.Omega.{arith}
 use denote.Ref.{now}
 use lib.ListN.{length, drop}
-use Rattle.partition.specs.declared.seats.Read.the-variants.{Words, Refused}
-use Rattle.partition.specs.Values.{Fillable}
+use Rattle.partition.specs.declared.seats.Read.the-variants.{Words}
 use Rattle.partition.proofs.ReadLaws.{words-got, number-got}
-use Rattle.partition.proofs.OverLaws.{capacity-some, says-refused, Ordered, Valued, unordered, unvalued, Ready, ready, done}
+use Rattle.partition.proofs.OverLaws.{capacity-some, says-refused, Ordered, Valued, unordered, unvalued, ready, done}
 use borrow.Author.Needs.{needs}
 use Rattle.partition.proofs.seats.draw_bins.Statement.{statement}
 use Rattle.partition.proofs.seats.draw_bins.Tie as tie

@@ -2,7 +2,6 @@
 use Prim.Native.Nat.{ℕ, _<_}
 use mathlib.Core.Path.{_≡_, sym, ap, subst, _∙_}
 use native.Mathlib.Omega.{arith}
-use mathlib.Core.Bool.{Bool}
 use denote.Ref.{now}
 use lib.ListN.{length, drop}
 use Rattle.refusals.specs.Refusals.{emptyBin}

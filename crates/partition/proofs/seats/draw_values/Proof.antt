@@ -1,13 +1,11 @@
 -- `partition::seats::draw_values` meets its contract. The invariant: the first j values, and those still to come, are the values of the whole.
-use Prim.Native.Nat.{ℕ, _-_, _<_}
+use Prim.Native.Nat.{_-_, _<_}
 use mathlib.Core.Path.{_≡_, sym, ap, _∙_}
-use mathlib.Core.Logic.{_⊎_, inl, inr}
-use mathlib.Core.List.{List}
+use mathlib.Core.Logic.{inl, inr}
 use native.Mathlib.Omega.{arith}
 use denote.Ref.{now}
 use lib.ListN.{length}
 use Rattle.words.specs.Stream.{stream}
-use Rattle.words.specs.Outcome.{Outcome}
 use Rattle.draws.specs.declared.below.Below.{Below}
 use Rattle.draws.specs.Below.{below}
 use Rattle.draws.specs.Answers.{belowSays}

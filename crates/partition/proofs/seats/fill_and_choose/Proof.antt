@@ -1,6 +1,6 @@
 -- `partition::seats::fill_and_choose` meets its contract: the columns of the pieces stand at the front of the buffers, and the values choose among them.
 use Prim.Native.Nat.{ℕ}
-use mathlib.Core.Path.{_≡_, sym, _∙_}
+use mathlib.Core.Path.{sym, _∙_}
 use mathlib.Core.List.{List}
 use native.Mathlib.Omega.{arith}
 use denote.Ref.{now}

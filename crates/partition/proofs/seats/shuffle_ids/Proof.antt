@@ -5,7 +5,6 @@ use mathlib.Core.List.{List}
 use native.Mathlib.Omega.{arith}
 use denote.Ref.{now}
 use lib.ListN.{length}
-use Rattle.words.specs.Outcome.{Outcome}
 use Rattle.words.specs.Stream.{stream}
 use Rattle.draws.specs.declared.shuffle.Shuffled.{Shuffled}
 use Rattle.draws.specs.declared.shuffle.Shuffled.the-variants.{Done, NoWord}
