@@ -3,7 +3,7 @@ use mathlib.Core.List.{List}
 use Prim.Native.Nat.{ℕ}
 use lib.ListN.{length}
 use Rattle.words.specs.Outcome.{Outcome, refused, accepted, wordsRead}
-use Rattle.partition.specs.Fill.{binsOf, validatorsOf, stakesOf}
+use Rattle.fill.specs.Fill.{binsOf, validatorsOf, stakesOf}
 use Rattle.fait_accompli.specs.declared.answers.CommitteeAnswer.{CommitteeAnswer}
 use Rattle.fait_accompli.specs.declared.answers.CommitteeAnswer.the-variants.{Accepted, Refused}
 use Rattle.fait_accompli.specs.Seats.{Committee, piecesOf}

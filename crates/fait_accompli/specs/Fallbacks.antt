@@ -8,7 +8,7 @@ use Rattle.refusals.specs.Refusals.{lowest}
 use Rattle.words.specs.Outcome.{Outcome, giving, unless}
 use Rattle.stake_weighted.specs.Seats.{iid}
 use Rattle.partition.specs.Seats.{Parted, parted, seatIds}
-use Rattle.partition.specs.Values.{Partable}
+use Rattle.partition.specs.Bins.{Partable}
 use Rattle.fait_accompli.specs.declared.sampler.Fallback.{Fallback}
 use Rattle.fait_accompli.specs.declared.sampler.Fallback.the-variants.{Bins, Draws}
 use Rattle.fait_accompli.specs.Seats.{unparted, sizeOf, Committee, committee}

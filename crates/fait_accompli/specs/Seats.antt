@@ -7,7 +7,7 @@ use Rattle.words.specs.Outcome.{Outcome, accepted, next, giving}
 use Rattle.draws.specs.declared.weighted.Place.{Place}
 use Rattle.draws.specs.Weighted.{ids}
 use Rattle.stake_weighted.specs.Seats.{iid}
-use Rattle.partition.specs.Fill.{Piece}
+use Rattle.fill.specs.Fill.{Piece}
 use Rattle.partition.specs.Seats.{capacity, Parted, overBins}
 use Rattle.fait_accompli.specs.declared.sampler.Fallback.{Fallback}
 use Rattle.fait_accompli.specs.declared.sampler.Fallback.the-variants.{Bins, Draws}

@@ -12,7 +12,7 @@ ghost use lib.ListN.{length, take, drop};
 ghost use Rattle.laws.specs.Sums.{total};
 ghost use Rattle.words.specs.Outcome.{bufferAfter};
 ghost use Rattle.partition.specs.Seats.{parted, pieceBins, pieceValidators, pieceStakes};
-ghost use Rattle.partition.specs.Values.{Partable};
+ghost use Rattle.partition.specs.Bins.{Partable};
 ghost use Rattle.partition.specs.Answers.{partitionAnswer, Holds};
 ghost use Rattle.fait_accompli.specs.Fallbacks.{plain, fallbackOver, seatedAfter, Drawable};
 

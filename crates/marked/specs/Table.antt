@@ -9,7 +9,7 @@ use Rattle.words.specs.Outcome.{Outcome, refused, accepted}
 use Rattle.draws.specs.Below.{below}
 use Rattle.decaying_acceptance.specs.declared.tries.Seat.{Seat}
 use Rattle.decaying_acceptance.specs.Calls.{one}
-use Rattle.partition.specs.Fill.{binsOf, validatorsOf, stakesOf}
+use Rattle.fill.specs.Fill.{binsOf, validatorsOf, stakesOf}
 use Rattle.partition.specs.Seats.{idsFrom, Parted, seatIds}
 use Rattle.partition.specs.Calls.{Places}
 use Rattle.partition.specs.Calls as bins

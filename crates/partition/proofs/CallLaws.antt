@@ -17,7 +17,7 @@ use Rattle.words.specs.Outcome.{refused, accepted, unless}
 use Rattle.words.proofs.Outcomes.{turned-down}
 use Rattle.partition.specs.Seats.{capacity, overBins, parted}
 use Rattle.partition.specs.Calls.{Places, shortPieces, mostPieces, quorum}
-use Rattle.partition.specs.Values.{Fillable, Partable}
+use Rattle.partition.specs.Bins.{Fillable, Partable}
 
 pub most-some : (n b : ℕ) → 0 < b → mostPieces n b ≡ n + b
 most-some n zero h = absurd (omega arith)

@@ -12,8 +12,9 @@ use borrow.Author.Tests.{ltb-true, ltb-false, lt-ltb, eqb-true, eqb-false, ne-eq
 use Rattle.laws.specs.Sums.{total, sumOf}
 use Rattle.laws.specs.Orders.{Permutation, AllBelow}
 use Rattle.laws.proofs.Buffers.{Stored, stored-next}
-use Rattle.partition.specs.Seats.{idsFrom, inOrder, shareStakes}
-use Rattle.partition.proofs.FillLaws.{measure, tally, Within}
+use Rattle.fill.specs.Values.{inOrder, shareStakes}
+use Rattle.partition.specs.Seats.{idsFrom}
+use Rattle.fill.proofs.FillLaws.{measure, tally, Within}
 
 pub ids-long : (i n : ℕ) → length (idsFrom i n) ≡ n
 ids-long i zero = refl

@@ -11,16 +11,17 @@ use Rattle.draws.specs.Below.{below}
 use Rattle.draws.specs.Shuffle.{shuffle}
 use Rattle.draws.specs.Weighted.{ids}
 use Rattle.draws.proofs.ShuffleLaws.{shuffle-permutes}
-use Rattle.partition.specs.Fill.{Share, Piece, fill, pieces, binsOf, validatorsOf, stakesOf}
-use Rattle.partition.specs.Seats.{idsFrom, inOrder, seat, Parted, overBins, seatIds, pieceBins, pieceValidators, pieceStakes}
-use Rattle.partition.specs.Values.{binTotal, binSums, Low, choices, Fillable}
+use Rattle.fill.specs.Fill.{Share, Piece, fill, pieces, binsOf, validatorsOf, stakesOf}
+use Rattle.fill.specs.Values.{inOrder, seat, binTotal, binSums, Low, choices}
+use Rattle.partition.specs.Seats.{idsFrom, Parted, overBins, seatIds, pieceBins, pieceValidators, pieceStakes}
+use Rattle.partition.specs.Bins.{Fillable}
 use Rattle.partition.specs.Answers.{partitionAnswer, Holds}
 use Rattle.partition.specs.declared.answers.Partition.{Partition}
 use Rattle.partition.specs.declared.answers.PartitionAnswer.{PartitionAnswer}
 use Rattle.partition.specs.declared.answers.PartitionAnswer.the-variants.{Accepted, Refused}
-use Rattle.partition.proofs.ChoiceLaws.{seats-by-values, fill-totals}
+use Rattle.fill.proofs.ChoiceLaws.{seats-by-values, fill-totals}
 use Rattle.partition.proofs.OrderLaws.{order-total, order-below, order-long}
-use Rattle.partition.proofs.ValueLaws.{sums-at, sums-long, values-low, some-left}
+use Rattle.fill.proofs.ValueLaws.{sums-at, sums-long, values-low, some-left}
 use Rattle.partition.proofs.ReadLaws.{Got}
 
 -- where there is something for every bin, the capacity is above 0

@@ -24,14 +24,15 @@ use Rattle.draws.specs.Shuffle.{shuffle}
 use Rattle.draws.proofs.Fairness.{counting}
 use Rattle.draws.proofs.WeightedLaws.{placed}
 use Rattle.draws.proofs.ShuffleLaws.{shuffle-permutes}
-use Rattle.partition.specs.Fill.{Share, Piece, fill, numbered, pieces, validatorsOf, stakesOf}
-use Rattle.partition.specs.Seats.{capacity, idsFrom, inOrder, shareStakes, holder, seatOf, seat, Parted, overBins, seatIds}
+use Rattle.fill.specs.Fill.{Share, Piece, fill, numbered, pieces, validatorsOf, stakesOf}
+use Rattle.fill.specs.Values.{inOrder, shareStakes, holder, seatOf, seat}
+use Rattle.partition.specs.Seats.{capacity, idsFrom, Parted, overBins, seatIds}
 use Rattle.partition.specs.Calls.{Places, quorumChecks}
 use Rattle.partition.specs.Pieces.{inBin, of, sumOfPieces, chooses, Filled, PartitionsFilled}
-use Rattle.partition.proofs.FillLaws.{Additive, measure, tally, fill-sums, fill-long, fill-adds, fill-single, fill-two, fill-positive}
+use Rattle.fill.proofs.FillLaws.{Additive, measure, tally, fill-sums, fill-long, fill-adds, fill-single, fill-two, fill-positive}
 use Rattle.partition.proofs.OrderLaws.{order-long, order-total, order-weight, order-once, order-within}
 use Rattle.partition.proofs.CallLaws.{bySize, bySum, capacity-fits, last-some}
-use Rattle.partition.proofs.FillingLaws.{whole-number}
+use Rattle.fill.proofs.FillingLaws.{whole-number}
 
 -- ---- the pieces of a bin, and of a validator
 

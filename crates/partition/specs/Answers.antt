@@ -7,8 +7,8 @@ use Rattle.refusals.specs.Refusals.{noWordLeft}
 use Rattle.words.specs.Outcome.{Outcome, refused, accepted, wordsRead}
 use Rattle.partition.specs.declared.answers.PartitionAnswer.{PartitionAnswer}
 use Rattle.partition.specs.declared.answers.PartitionAnswer.the-variants as answer
-use Rattle.partition.specs.declared.seats.Values.{Values}
-use Rattle.partition.specs.declared.seats.Values.the-variants as values
+use Rattle.fill.specs.declared.values.Values.{Values}
+use Rattle.fill.specs.declared.values.Values.the-variants as values
 use Rattle.partition.specs.declared.seats.Read.{Read}
 use Rattle.partition.specs.declared.seats.Read.the-variants as read
 use Rattle.partition.specs.Seats.{Parted}
@@ -22,11 +22,6 @@ partitionAnswer first second (accepted p secondLeft) =
       «first_words_read» = wordsRead first (p .firstLeft);
       «second_words_read» = wordsRead second secondLeft;
     })
-
--- of `draw_values`, with the values that the buffer then holds and the words that are left
-abbrev pub valuesSays : Values → List ℕ → List ℕ → Outcome (List ℕ)
-valuesSays values.Drawn held left = accepted held left
-valuesSays values.NoWord held left = refused noWordLeft
 
 -- of a step that reads words
 abbrev pub readAnswer : {A : Type 0} → List ℕ → Outcome A → Read

@@ -1,6 +1,5 @@
-pub mod Fill
 pub mod Seats
-pub mod Values
+pub mod Bins
 pub mod Calls
 pub mod Pieces
 pub mod Answers

@@ -8,7 +8,7 @@ use Rattle.laws.specs.Sums.{total}
 use Rattle.laws.specs.Counts.{countBelow, those}
 use Rattle.words.specs.Outcome.{accepted}
 use Rattle.draws.specs.Weighted.{chosen}
-use Rattle.partition.specs.Fill.{Piece, validatorsOf, stakesOf}
+use Rattle.fill.specs.Fill.{Piece, validatorsOf, stakesOf}
 use Rattle.partition.specs.Seats.{capacity, Parted, seatIds}
 use Rattle.partition.specs.Calls.{Places, quorum}
 

@@ -1,13 +1,14 @@
 -- "Partition of total S into b bins".
 use Prim.Native.Nat.{ℕ, zero, suc, _+_, _-_, _/_}
-use mathlib.Core.List.{List, [], _∷_, map}
-use lib.ListN.{length, getD}
+use mathlib.Core.List.{List, [], _∷_}
+use lib.ListN.{length}
 use Rattle.refusals.specs.Refusals.{lowest, emptyBin}
 use Rattle.words.specs.Outcome.{Outcome, accepted, next, each, giving, unless}
 use Rattle.draws.specs.declared.weighted.Place.{Place}
-use Rattle.draws.specs.Weighted.{weighted, ids}
+use Rattle.draws.specs.Weighted.{ids}
 use Rattle.draws.specs.Shuffle.{shuffle}
-use Rattle.partition.specs.Fill.{Share, Piece, fill, pieces, binsOf, validatorsOf, stakesOf}
+use Rattle.fill.specs.Fill.{Piece, fill, pieces, binsOf, validatorsOf, stakesOf}
+use Rattle.fill.specs.Values.{inOrder, seat}
 
 -- "capacity ceil(S / b)"
 abbrev pub capacity : ℕ → ℕ → ℕ
@@ -17,26 +18,6 @@ capacity S b = (S + (b - 1)) / b
 abbrev pub idsFrom : ℕ → ℕ → List ℕ
 idsFrom i zero = []
 idsFrom i (suc n) = i ∷ idsFrom (i + 1) n
-
--- weights in an order of their validators
-abbrev pub inOrder : List ℕ → List ℕ → List Share
-inOrder weights order = map (λ i. record { validator = i; stake = getD weights i 0 }) order
-
--- the stakes of a bin's shares
-abbrev pub shareStakes : List Share → List ℕ
-shareStakes xs = map (λ x. x .stake) xs
-
--- the validator whose share stands at a place
-abbrev pub holder : List Share → ℕ → ℕ
-holder xs at = getD (map (λ x. x .validator) xs) at 0
-
--- the validator at a place of a bin, with the remainder of the draw
-abbrev pub seatOf : List Share → Place → Place
-seatOf bin p = record { at = holder bin (p .at); remainder = p .remainder }
-
--- "One weighted draw from each bin"
-abbrev pub seat : List Share → List ℕ → Outcome Place
-seat bin ws = giving (seatOf bin) (weighted (shareStakes bin) ws)
 
 -- the seats drawn, by validator; the pieces in fill order; the words of the first list that are left
 pub record Parted : Type 0 where

@@ -4,7 +4,6 @@
 // was lent: the sum of each bin is known from the capacity and the total, so the values need no pieces.
 mod answers;
 mod checks;
-mod fill;
 mod quorum;
 mod sampler;
 pub mod seats;

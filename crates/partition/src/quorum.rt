@@ -6,7 +6,7 @@ ghost use mathlib.Core.Path.{_≡_};
 ghost use lib.ListN.{length, drop};
 ghost use Rattle.words.specs.Outcome.{bufferAfter};
 ghost use Rattle.partition.specs.Seats.{parted, seatIds, pieceBins, pieceValidators, pieceStakes};
-ghost use Rattle.partition.specs.Values.{Partable};
+ghost use Rattle.partition.specs.Bins.{Partable};
 ghost use Rattle.partition.specs.Answers.{partitionAnswer};
 
 // A partition into as many bins as drawn has places. The seats are stored once all are drawn.

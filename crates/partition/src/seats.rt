@@ -2,91 +2,25 @@
 use crate::answers::Partition;
 use crate::answers::PartitionAnswer;
 use crate::checks;
-use crate::fill;
-use draws::below;
-use draws::below::Below;
 use draws::shuffle;
 use draws::shuffle::Shuffled;
-use words::Words;
-ghost use Prim.Native.Nat.{_+_, _-_, _*_, _^_, _≤_, _<_};
+use fill::values;
+use fill::values::Values;
+ghost use Prim.Native.Nat.{_+_, _-_, _*_, _≤_, _<_};
 ghost use mathlib.Core.Path.{_≡_};
-ghost use mathlib.Core.List.{_++_};
 ghost use lib.ListN.{length, drop};
-ghost use Rattle.laws.specs.Sums.{total};
-ghost use Rattle.laws.specs.Orders.{AllBelow};
 ghost use Rattle.words.specs.Outcome.{each, giving, bufferAfter};
-ghost use Rattle.words.specs.Stream.{stream};
 ghost use Rattle.draws.specs.Below.{below};
 ghost use Rattle.draws.specs.Shuffle.{shuffle};
-ghost use Rattle.draws.specs.Weighted.{ids};
-ghost use Rattle.partition.specs.Fill.{fill, pieces, binsOf, validatorsOf, stakesOf};
-ghost use Rattle.partition.specs.Seats.{idsFrom, inOrder, overBins, parted, seatIds, pieceBins, pieceValidators, pieceStakes};
-ghost use Rattle.partition.specs.Values.{binTotal, binSums, Low, InBins, choices, seatsAt, Fillable, Partable};
-ghost use Rattle.partition.specs.Answers.{valuesSays, readAnswer, Holds, partitionAnswer};
-
-// How drawing the values of the bins ends.
-pub enum Values {
-    Drawn,
-    NoWord,
-}
+ghost use Rattle.fill.specs.Values.{binSums};
+ghost use Rattle.partition.specs.Seats.{idsFrom, overBins, parted, seatIds, pieceBins, pieceValidators, pieceStakes};
+ghost use Rattle.partition.specs.Bins.{Fillable, Partable};
+ghost use Rattle.partition.specs.Answers.{readAnswer, Holds, partitionAnswer};
 
 // How a step that reads words ends: with so many read, or with a refusal.
 pub enum Read {
     Words(usize),
     Refused(u64),
-}
-
-// Draws a value for each bin, below its sum: the capacity, or what is left of the total for it.
-fn draw_values(
-    list: &[u64],
-    words: &mut Words,
-    capacity: u64,
-    sum: u64,
-    values: &mut [u64],
-) -> Values
-    requires { ⌜ (length (now values) - 1) * capacity < sum ⌝ }
-    requires { ⌜ 0 < capacity ⌝ }
-    ensures { λ r. ⌜ valuesSays r (now (values .exit)) (stream (now (list .entry)) (now (words .exit))) ≡ each below (binSums capacity (length (now (values .entry))) sum) (stream (now (list .entry)) (now (words .entry))) ⌝ }
-{
-    let mut left = sum;
-    let mut j = 0;
-    while j < values.len() {
-        let bin = if left < capacity { left } else { capacity };
-        match below::draw_below(list, words, bin) {
-            Below::Value(v) => {
-                values[j] = v;
-                left -= bin;
-                j += 1;
-            }
-            Below::NoWord => {
-                return Values::NoWord;
-            }
-        }
-    }
-    Values::Drawn
-}
-
-// Puts in the place of each value the validator of the piece that it chooses: the values of bin j count from j times the capacity on.
-fn choose_seats(piece_validators: &[u64], piece_stakes: &[u64], capacity: u64, seats: &mut [u64])
-    requires { ⌜ length (now «piece_validators») ≡ length (now «piece_stakes») ⌝ }
-    requires { ⌜ total (now «piece_stakes») < 2 ^ 64 ⌝ }
-    requires { ⌜ InBins capacity (total (now «piece_stakes»)) (now seats) ⌝ }
-    ensures { λ _. ⌜ now (seats .exit) ≡ seatsAt capacity (now («piece_validators» .entry)) (now («piece_stakes» .entry)) 0 (now (seats .entry)) ⌝ }
-{
-    let mut before: u64 = 0;
-    let mut at = 0;
-    let mut j = 0;
-    while j < seats.len() {
-        let value = (j as u64) * capacity + seats[j] - before;
-        let stake = piece_stakes[at];
-        if value < stake {
-            seats[j] = piece_validators[at];
-            j += 1;
-        } else {
-            before += stake;
-            at += 1;
-        }
-    }
 }
 
 // The ids from 0 on.
@@ -123,53 +57,10 @@ fn draw_by(list: &[u64], cursor: usize, capacity: u64, sum: u64, values: &mut [u
 {
     let mut words = words::listed(list, cursor);
     let left = words::words_left(list, &words);
-    match draw_values(list, &mut words, capacity, sum, values) {
+    match values::draw_values(list, &mut words, capacity, sum, values) {
         Values::Drawn => Read::Words(left - words::words_left(list, &words)),
         Values::NoWord => Read::Refused(refusals::NO_WORD_LEFT),
     }
-}
-
-// Fills the bins, and puts in the place of each value the validator that it chooses. Gives the number of pieces.
-fn fill_and_choose(
-    weights: &[u64],
-    order: &[u64],
-    capacity: u64,
-    seats: &mut [u64],
-    piece_bins: &mut [u64],
-    piece_validators: &mut [u64],
-    piece_stakes: &mut [u64],
-) -> usize
-    requires { ⌜ 0 < length (now seats) ⌝ }
-    requires { ⌜ AllBelow (length (now weights)) (now order) ⌝ }
-    requires { ⌜ binTotal (inOrder (now weights) (now order)) ≤ length (now seats) * capacity ⌝ }
-    requires { ⌜ binTotal (inOrder (now weights) (now order)) < 2 ^ 64 ⌝ }
-    requires { ⌜ Low capacity (length (now seats)) (binTotal (inOrder (now weights) (now order))) (now seats) ⌝ }
-    requires { ⌜ length (now order) + length (now seats) ≤ length (now «piece_bins») ⌝ }
-    requires { ⌜ length (now order) + length (now seats) ≤ length (now «piece_validators») ⌝ }
-    requires { ⌜ length (now order) + length (now seats) ≤ length (now «piece_stakes») ⌝ }
-    ensures { λ r. ⌜ r ≡ length (pieces 0 (fill capacity (length (now (seats .entry))) (inOrder (now (weights .entry)) (now (order .entry))))) ⌝ }
-    ensures { λ r. ⌜ now (seats .exit) ≡ ids (choices (fill capacity (length (now (seats .entry))) (inOrder (now (weights .entry)) (now (order .entry)))) (now (seats .entry))) ⌝ }
-    ensures { λ r. ⌜ now («piece_bins» .exit) ≡ binsOf (pieces 0 (fill capacity (length (now (seats .entry))) (inOrder (now (weights .entry)) (now (order .entry))))) ++ drop r (now («piece_bins» .entry)) ⌝ }
-    ensures { λ r. ⌜ now («piece_validators» .exit) ≡ validatorsOf (pieces 0 (fill capacity (length (now (seats .entry))) (inOrder (now (weights .entry)) (now (order .entry))))) ++ drop r (now («piece_validators» .entry)) ⌝ }
-    ensures { λ r. ⌜ now («piece_stakes» .exit) ≡ stakesOf (pieces 0 (fill capacity (length (now (seats .entry))) (inOrder (now (weights .entry)) (now (order .entry))))) ++ drop r (now («piece_stakes» .entry)) ⌝ }
-{
-    let bins = seats.len();
-    let pieces = fill::fill(
-        weights,
-        order,
-        capacity,
-        bins,
-        piece_bins,
-        piece_validators,
-        piece_stakes,
-    );
-    choose_seats(
-        &piece_validators[..pieces],
-        &piece_stakes[..pieces],
-        capacity,
-        seats,
-    );
-    pieces
 }
 
 // One seat from each of as many bins as there are seats, filled to the capacity with weights of this sum. The order is scratch space,
@@ -208,7 +99,7 @@ fn draw_bins(
             seats,
         ) {
             Read::Words(second_words_read) => PartitionAnswer::Accepted(Partition {
-                pieces: fill_and_choose(
+                pieces: values::fill_and_choose(
                     weights,
                     order,
                     capacity,

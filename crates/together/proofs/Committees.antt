@@ -18,7 +18,7 @@ use Rattle.refusals.specs.Refusals.{lowest, listLength, committeeSize, shortBuf
 use Rattle.refusals.proofs.CheckLaws.{passed, last-passed, sized, summed}
 use Rattle.words.specs.Outcome.{Outcome, refused, accepted, bufferAfter}
 use Rattle.words.proofs.Outcomes.{Went, went, unrefused}
-use Rattle.partition.specs.Fill.{Piece, binsOf, validatorsOf, stakesOf}
+use Rattle.fill.specs.Fill.{Piece, binsOf, validatorsOf, stakesOf}
 use Rattle.partition.specs.Seats.{capacity, Parted, overBins, seatIds}
 use Rattle.partition.specs.Pieces.{sumOfPieces, Filled}
 use Rattle.partition.specs.Calls.{Places, shortPieces}

@@ -10,7 +10,7 @@ use lib.ListN.{length, getD, take, drop}
 use Rattle.laws.specs.Sums.{total}
 use Rattle.laws.specs.Counts.{countBelow, count}
 use Rattle.words.specs.Outcome.{bufferAfter}
-use Rattle.partition.specs.Fill.{Piece}
+use Rattle.fill.specs.Fill.{Piece}
 use Rattle.partition.specs.Pieces.{inBin, of, sumOfPieces, chooses}
 use Rattle.fait_accompli.specs.declared.sampler.Fallback.the-variants.{Bins}
 use Rattle.fait_accompli.specs.declared.answers.Committee.{Committee}

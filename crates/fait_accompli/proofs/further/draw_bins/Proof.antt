@@ -4,7 +4,7 @@ use mathlib.Core.Path.{sym, subst}
 use denote.Ref.{now}
 use lib.ListN.{length, take, drop}
 use Rattle.partition.specs.Seats.{parted}
-use Rattle.partition.specs.Values.{Partable}
+use Rattle.partition.specs.Bins.{Partable}
 use Rattle.partition.specs.Answers.{Holds}
 use Rattle.partition.proofs.OverLaws.{Says}
 use Rattle.fait_accompli.specs.Fallbacks.{seatedAfter}

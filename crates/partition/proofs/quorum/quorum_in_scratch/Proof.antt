@@ -6,7 +6,7 @@ use denote.Ref.{now}
 use lib.ListN.{length, take, drop}
 use lib.Seq.{length-take-le}
 use Rattle.partition.specs.Seats.{parted}
-use Rattle.partition.specs.Values.{Partable}
+use Rattle.partition.specs.Bins.{Partable}
 use Rattle.partition.proofs.OverLaws.{Given}
 use borrow.Author.Needs.{needs}
 use Rattle.partition.proofs.quorum.quorum_in_scratch.Statement.{statement}

@@ -10,10 +10,10 @@ use Rattle.words.specs.Stream.{stream}
 use Rattle.words.proofs.EachLaws.{each-no-longer}
 use Rattle.draws.specs.Below.{below}
 use Rattle.draws.proofs.BelowLaws.{below-no-longer}
-use Rattle.partition.specs.declared.seats.Values.{Values}
-use Rattle.partition.specs.declared.seats.Values.the-variants.{Drawn, NoWord}
-use Rattle.partition.specs.Values.{binSums}
-use Rattle.partition.specs.Answers.{valuesSays}
+use Rattle.fill.specs.declared.values.Values.{Values}
+use Rattle.fill.specs.declared.values.Values.the-variants.{Drawn, NoWord}
+use Rattle.fill.specs.Values.{binSums}
+use Rattle.fill.specs.Answers.{valuesSays}
 use Rattle.partition.proofs.ReadLaws.{read-accepted, read-refused}
 use borrow.Author.Needs.{needs}
 use Rattle.partition.proofs.seats.draw_by.Statement.{statement}

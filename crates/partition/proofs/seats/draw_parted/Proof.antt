@@ -7,7 +7,7 @@ use lib.ListN.{length, drop}
 use Rattle.refusals.specs.Refusals.{emptyBin}
 use Rattle.words.specs.Outcome.{Outcome}
 use Rattle.partition.specs.Seats.{capacity, Parted, overBins, parted}
-use Rattle.partition.specs.Values.{Fillable}
+use Rattle.partition.specs.Bins.{Fillable}
 use Rattle.partition.proofs.CallLaws.{product-fits, fillable, parted-full, parted-empty, parted-none}
 use Rattle.partition.proofs.OverLaws.{Says, says-refused, says-none}
 use borrow.Author.Needs.{needs}

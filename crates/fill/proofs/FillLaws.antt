@@ -9,8 +9,8 @@ use lib.ListN.{length, getD, length-append}
 use borrow.Author.Tests.{leb-true, leb-false, le-leb, lt-leb, ltb-true, ltb-false, lt-ltb}
 use Rattle.laws.specs.Sums.{total, sumOf}
 use Rattle.laws.specs.Counts.{consIf}
-use Rattle.partition.specs.Fill.{Share, put, taken, left, fill, numbered, pieces}
-use Rattle.partition.specs.Seats.{shareStakes}
+use Rattle.fill.specs.Fill.{Share, put, taken, left, fill, numbered, pieces}
+use Rattle.fill.specs.Values.{shareStakes}
 
 -- ---- one bin, one share at a time
 

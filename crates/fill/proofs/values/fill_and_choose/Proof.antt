@@ -1,16 +1,16 @@
--- `partition::seats::fill_and_choose` meets its contract: the columns of the pieces stand at the front of the buffers, and the values choose among them.
+-- `fill::values::fill_and_choose` meets its contract: the columns of the pieces stand at the front of the buffers, and the values choose among them.
 use Prim.Native.Nat.{ℕ}
 use mathlib.Core.Path.{sym, _∙_}
 use mathlib.Core.List.{List}
 use native.Mathlib.Omega.{arith}
 use denote.Ref.{now}
 use lib.ListN.{length}
-use Rattle.partition.specs.Fill.{Share, fill, pieces}
-use Rattle.partition.specs.Seats.{inOrder}
-use Rattle.partition.proofs.ChoiceLaws.{Columns, columns, stakes-total, choosable, chosen-seats}
+use Rattle.fill.specs.Fill.{Share, fill, pieces}
+use Rattle.fill.specs.Values.{inOrder}
+use Rattle.fill.proofs.ChoiceLaws.{Columns, columns, stakes-total, choosable, chosen-seats}
 use borrow.Author.Needs.{needs}
-use Rattle.partition.proofs.seats.fill_and_choose.Statement.{statement}
-use Rattle.partition.proofs.seats.fill_and_choose.Tie as tie
+use Rattle.fill.proofs.values.fill_and_choose.Statement.{statement}
+use Rattle.fill.proofs.values.fill_and_choose.Tie as tie
 
 abbrev start-of : tie.After-fill → tie.Start
 start-of c = c .before .before .before .before .before .before .before .before .before .before

@@ -1,4 +1,4 @@
--- `partition::seats::draw_values` meets its contract. The invariant: the first j values, and those still to come, are the values of the whole.
+-- `fill::values::draw_values` meets its contract. The invariant: the first j values, and those still to come, are the values of the whole.
 use Prim.Native.Nat.{_-_, _<_}
 use mathlib.Core.Path.{_≡_, sym, ap, _∙_}
 use mathlib.Core.Logic.{inl, inr}
@@ -9,10 +9,10 @@ use Rattle.words.specs.Stream.{stream}
 use Rattle.draws.specs.declared.below.Below.{Below}
 use Rattle.draws.specs.Below.{below}
 use Rattle.draws.specs.Answers.{belowSays}
-use Rattle.partition.proofs.ValueLaws.{Valuing, valuing-none, valuing-next, valuing-dry, valuing-all, Smaller, bin-some, bin-le}
+use Rattle.fill.proofs.ValueLaws.{Valuing, valuing-none, valuing-next, valuing-dry, valuing-all, Smaller, bin-some, bin-le}
 use borrow.Author.Needs.{needs}
-use Rattle.partition.proofs.seats.draw_values.Statement.{statement}
-use Rattle.partition.proofs.seats.draw_values.Tie as tie
+use Rattle.fill.proofs.values.draw_values.Statement.{statement}
+use Rattle.fill.proofs.values.draw_values.Tie as tie
 
 abbrev Inv-loop : tie.InvT-loop
 Inv-loop list words₀ capacity sum values₀ left₀ j₀ words values left j = Valuing capacity sum (length values₀) (stream list words₀) (stream list words) values left j

@@ -7,8 +7,8 @@ ghost use lib.Dec.{ltb};
 ghost use lib.ListN.{length, set, drop};
 ghost use Rattle.laws.specs.Sums.{total};
 ghost use Rattle.laws.specs.Orders.{AllBelow};
-ghost use Rattle.partition.specs.Fill.{fill, pieces, binsOf, validatorsOf, stakesOf};
-ghost use Rattle.partition.specs.Seats.{inOrder, shareStakes};
+ghost use Rattle.fill.specs.Fill.{fill, pieces, binsOf, validatorsOf, stakesOf};
+ghost use Rattle.fill.specs.Values.{inOrder, shareStakes};
 
 // Stores a piece at a place, and gives the place after it. A zero stake leaves no piece.
 fn put_piece(

@@ -1,13 +1,13 @@
--- `partition::fill::fill` meets its contract. The invariant: the pieces stored are the first of the fill, and those still to come are the others.
+-- `fill::rule::fill` meets its contract. The invariant: the pieces stored are the first of the fill, and those still to come are the others.
 use Prim.Native.Nat.{_+_, _-_}
 use mathlib.Core.Path.{refl}
 use native.Mathlib.Omega.{arith}
 use denote.Ref.{now}
 use lib.ListN.{length}
-use Rattle.partition.proofs.FillingLaws.{Filling, filling-none, filling-fits, filling-over, filling-all, room-fits, room-over, whole, Roomy, roomy}
+use Rattle.fill.proofs.FillingLaws.{Filling, filling-none, filling-fits, filling-over, filling-all, room-fits, room-over, whole, Roomy, roomy}
 use borrow.Author.Needs.{needs}
-use Rattle.partition.proofs.fill.fill.Statement.{statement}
-use Rattle.partition.proofs.fill.fill.Tie as tie
+use Rattle.fill.proofs.rule.fill.Statement.{statement}
+use Rattle.fill.proofs.rule.fill.Tie as tie
 
 abbrev Inv-loop : tie.InvT-loop
 Inv-loop weights order capacity bins piece-bins₀ piece-validators₀ piece-stakes₀ count₀ bin₀ room₀ at₀ used₀ piece-bins piece-validators piece-stakes count bin room at used =

@@ -1,12 +1,12 @@
--- `partition::seats::choose_seats` meets its contract. The invariant: the first j values are replaced, and no piece before `at` holds a later value.
+-- `fill::values::choose_seats` meets its contract. The invariant: the first j values are replaced, and no piece before `at` holds a later value.
 use Prim.Native.Nat.{_+_, _-_, _<_}
 use native.Mathlib.Omega.{arith}
 use denote.Ref.{now}
 use lib.ListN.{length}
-use Rattle.partition.proofs.ValueLaws.{Choosing, choosing-none, choosing-found, choosing-past, choosing-all, At, looking}
+use Rattle.fill.proofs.ValueLaws.{Choosing, choosing-none, choosing-found, choosing-past, choosing-all, At, looking}
 use borrow.Author.Needs.{needs}
-use Rattle.partition.proofs.seats.choose_seats.Statement.{statement}
-use Rattle.partition.proofs.seats.choose_seats.Tie as tie
+use Rattle.fill.proofs.values.choose_seats.Statement.{statement}
+use Rattle.fill.proofs.values.choose_seats.Tie as tie
 
 abbrev Inv-loop : tie.InvT-loop
 Inv-loop piece-validators piece-stakes capacity seats₀ before₀ at₀ j₀ seats before at j = Choosing capacity piece-validators piece-stakes seats₀ seats before at j

@@ -11,9 +11,9 @@ use lib.Seq.{drop-cons, drop-drop, getD-drop}
 use Rattle.laws.specs.Sums.{total}
 use Rattle.laws.specs.Counts.{consIf}
 use Rattle.laws.proofs.Buffers.{Stored, stored-none, stored-next, stored-all}
-use Rattle.partition.specs.Fill.{Share, Piece, put, taken, left, fill, numbered, pieces, binsOf, validatorsOf, stakesOf}
-use Rattle.partition.specs.Seats.{inOrder, shareStakes}
-use Rattle.partition.proofs.FillLaws.{taken-fits, left-fits, taken-over, left-over, fill-nothing, fill-number, number, pieces-number}
+use Rattle.fill.specs.Fill.{Share, Piece, put, taken, left, fill, numbered, pieces, binsOf, validatorsOf, stakesOf}
+use Rattle.fill.specs.Values.{inOrder, shareStakes}
+use Rattle.fill.proofs.FillLaws.{taken-fits, left-fits, taken-over, left-over, fill-nothing, fill-number, number, pieces-number}
 
 -- shares of which the first has lost a part
 abbrev pub less : ℕ → List Share → List Share

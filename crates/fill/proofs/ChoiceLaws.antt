@@ -12,11 +12,11 @@ use Rattle.draws.specs.declared.weighted.Place.{Place}
 use Rattle.draws.specs.Below.{below}
 use Rattle.draws.specs.Weighted.{chosen, placeOf, ids}
 use Rattle.draws.proofs.WeightedLaws.{Chosen, chosen-is, chosen-before, chosen-past}
-use Rattle.partition.specs.Fill.{Share, Piece, taken, left, fill, numbered, pieces, validatorsOf, stakesOf}
-use Rattle.partition.specs.Seats.{shareStakes, holder, seatOf, seat}
-use Rattle.partition.specs.Values.{binTotal, binSums, Low, InBins, choices, seatsAt}
-use Rattle.partition.proofs.FillLaws.{taken-total, left-total, fill-adds, stake-additive}
-use Rattle.partition.proofs.ValueLaws.{sums-at}
+use Rattle.fill.specs.Fill.{Share, Piece, taken, left, fill, numbered, pieces, validatorsOf, stakesOf}
+use Rattle.fill.specs.Values.{shareStakes, holder, seatOf, seat}
+use Rattle.fill.specs.Values.{binTotal, binSums, Low, InBins, choices, seatsAt}
+use Rattle.fill.proofs.FillLaws.{taken-total, left-total, fill-adds, stake-additive}
+use Rattle.fill.proofs.ValueLaws.{sums-at}
 
 pub seats-by-values : (bins : List (List Share)) (ws : List ℕ) → each seat bins ws ≡ giving (choices bins) (each below (map binTotal bins) ws)
 seats-by-values [] ws = refl

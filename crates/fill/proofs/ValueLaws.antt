@@ -21,7 +21,7 @@ use Rattle.draws.specs.Below.{below}
 use Rattle.draws.specs.Weighted.{chosen}
 use Rattle.draws.proofs.BelowLaws.{drawn-lt}
 use Rattle.draws.proofs.WeightedLaws.{chosen-at}
-use Rattle.partition.specs.Values.{binSums, InBins, seatsAt}
+use Rattle.fill.specs.Values.{binSums, InBins, seatsAt}
 
 -- ---- the sums of the bins
 

@@ -1,13 +1,33 @@
--- The values that are drawn for bins, before anything is known of their shares; and the validators that they choose.
+-- Weights in an order; the values that are drawn for bins, before anything is known of their shares; and the validators that they choose.
 use Prim.Native.Nat.{ℕ, zero, suc, _+_, _-_, _*_, _≤_, _<_, min}
 use mathlib.Core.Path.{_≡_}
-use mathlib.Core.List.{List, [], _∷_}
+use mathlib.Core.List.{List, [], _∷_, map}
 use lib.ListN.{length, getD}
 use Rattle.laws.specs.Sums.{total}
+use Rattle.words.specs.Outcome.{Outcome, giving}
 use Rattle.draws.specs.declared.weighted.Place.{Place}
-use Rattle.draws.specs.Weighted.{chosen, placeOf}
-use Rattle.partition.specs.Fill.{Share}
-use Rattle.partition.specs.Seats.{shareStakes, seatOf}
+use Rattle.draws.specs.Weighted.{chosen, placeOf, weighted}
+use Rattle.fill.specs.Fill.{Share}
+
+-- weights in an order of their validators
+abbrev pub inOrder : List ℕ → List ℕ → List Share
+inOrder weights order = map (λ i. record { validator = i; stake = getD weights i 0 }) order
+
+-- the stakes of a bin's shares
+abbrev pub shareStakes : List Share → List ℕ
+shareStakes xs = map (λ x. x .stake) xs
+
+-- the validator whose share stands at a place
+abbrev pub holder : List Share → ℕ → ℕ
+holder xs at = getD (map (λ x. x .validator) xs) at 0
+
+-- the validator at a place of a bin, with the remainder of the draw
+abbrev pub seatOf : List Share → Place → Place
+seatOf bin p = record { at = holder bin (p .at); remainder = p .remainder }
+
+-- "One weighted draw from each bin"
+abbrev pub seat : List Share → List ℕ → Outcome Place
+seat bin ws = giving (seatOf bin) (weighted (shareStakes bin) ws)
 
 -- the sum of a bin
 abbrev pub binTotal : List Share → ℕ
@@ -36,19 +56,3 @@ InBins cap S values = (j : ℕ) → j < length values → (getD values j 0 < cap
 abbrev pub seatsAt : ℕ → List ℕ → List ℕ → ℕ → List ℕ → List ℕ
 seatsAt cap validators stakes j [] = []
 seatsAt cap validators stakes j (v ∷ vs) = getD validators (chosen stakes (j * cap + v)) 0 ∷ seatsAt cap validators stakes (j + 1) vs
-
--- b bins, at least one, that have room for the weights, and of which none would be empty
-pub record Fillable (weights : List ℕ) (sum cap b : ℕ) : Type 0 where
-  pub is : sum ≡ total weights
-  pub some : 0 < b
-  pub room : sum ≤ b * cap
-  pub full : (b - 1) * cap < sum
-
--- weights of this sum that b bins may be filled with, if there is one, and places for their pieces
-pub record Partable (weights : List ℕ) (sum b bins validators stakes : ℕ) : Type 0 where
-  pub is : sum ≡ total weights
-  pub some : 0 < b → 0 < sum
-  pub few : b ≤ 1024
-  pub bins-room : 0 < b → length weights + b ≤ bins
-  pub validators-room : 0 < b → length weights + b ≤ validators
-  pub stakes-room : 0 < b → length weights + b ≤ stakes

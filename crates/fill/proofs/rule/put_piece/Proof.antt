@@ -1,4 +1,4 @@
--- `partition::fill::put_piece` meets its contract.
+-- `fill::rule::put_piece` meets its contract.
 use Prim.Native.Nat.{ℕ, _+_, _≤_, _<_}
 use mathlib.Core.Path.{_≡_, refl}
 use mathlib.Core.Bool.{true, cond}
@@ -6,8 +6,8 @@ use native.Mathlib.Omega.{arith}
 use lib.Dec.{ltb}
 use borrow.Author.Tests.{lt-ltb, le-ltb}
 use borrow.Author.Needs.{needs}
-use Rattle.partition.proofs.fill.put_piece.Statement.{statement}
-use Rattle.partition.proofs.fill.put_piece.Tie as tie
+use Rattle.fill.proofs.rule.put_piece.Statement.{statement}
+use Rattle.fill.proofs.rule.put_piece.Tie as tie
 
 some : (x : ℕ) → (x ≡ 0 → ⊥) → ltb 0 x ≡ true
 some x h = lt-ltb 0 x (omega (arith, h))

@@ -1,0 +1,4 @@
+pub mod FillLaws
+pub mod FillingLaws
+pub mod ValueLaws
+pub mod ChoiceLaws
