@@ -27,14 +27,14 @@ module _ (T k q r : ℕ) (d : Divided T k q r) where
 
   module _ (large : 18014398509481984 ≤ T) where
     -- the quotient is large, so the remainder is at most it
-    pub quotient-large : 1024 ≤ q
+    quotient-large : 1024 ≤ q
     quotient-large = omega (arith, whole, rest-lt, mul-le-mul-left q (d .few))
 
     module _ (s g rest : ℕ) (in-total : s ≤ T) (eg : g ≡ s / q) (es : rest ≡ s - g * q) where
       split : g * q + rest ≡ s
       split = omega (arith, ap (_* q) eg, div-add-mod' s q)
 
-      pub guess-le : g * q ≤ s
+      guess-le : g * q ≤ s
       guess-le = omega (arith, split)
 
       rest-less : rest < q
@@ -44,34 +44,56 @@ module _ (T k q r : ℕ) (d : Divided T k q r) where
           low = omega (arith, quotient-large)
 
       -- the two products that are compared fit
-      pub left-le : g * r ≤ s
+      left-le : g * r ≤ s
       left-le = omega (arith, guess-le, mul-le-mul-left g r-le)
         where
           r-le : r ≤ q
           r-le = omega (arith, rest-lt, quotient-large)
 
-      pub right-le : rest * k ≤ T
+      right-le : rest * k ≤ T
       right-le = omega (arith, whole, mul-le-mul-right k rest-less)
 
       -- s × k = g × T + rest × k − g × r
       product : s * k + g * r ≡ g * T + rest * k
       product = omega (arith, ap (_* k) split, ap (g *_) whole)
 
-      pub fixed-guess : g * r ≤ rest * k → g ≡ fixed k T s
+      fixed-guess : g * r ≤ rest * k → g ≡ fixed k T s
       fixed-guess h = sym (floor-is g (rest * k - g * r) (s * k) (omega (arith, whole, mul-le-mul-right k rest-less)) (omega (arith, product)))
 
-      pub guess-some : rest * k < g * r → 0 < g
+      guess-some : rest * k < g * r → 0 < g
       guess-some h = go g refl
         where
           go : (m : ℕ) → g ≡ m → 0 < g
           go zero e = absurd (omega (arith, ap (_* r) e))
           go (suc m) e = omega arith
 
-      pub fixed-less : rest * k < g * r → g - 1 ≡ fixed k T s
+      fixed-less : rest * k < g * r → g - 1 ≡ fixed k T s
       fixed-less h = sym (floor-is (g - 1) (T + rest * k - g * r) (s * k) (omega (arith, left-le)) (omega (arith, product, left-le, more)))
         where
           more : g * T ≡ (g - 1) * T + T
           more = let e : g ≡ suc (g - 1) = omega (arith, guess-some h) in omega (arith, ap (_* T) e)
+
+  -- all that the code asks of the guess, and what it tells
+  pub record Guess (s g rest : ℕ) : Type 0 where
+    pub divides : 0 < q
+    pub product-le : g * q ≤ s
+    pub left-fits : g * r ≤ s
+    pub right-fits : rest * k ≤ T
+    pub exact : g * r ≤ rest * k → g ≡ fixed k T s
+    pub some : rest * k < g * r → 0 < g
+    pub less : rest * k < g * r → g - 1 ≡ fixed k T s
+
+  pub guess : 18014398509481984 ≤ T → (s : ℕ) → s ≤ T → Guess s (s / q) (s - s / q * q)
+  guess large s h =
+      record {
+        divides = omega (arith, quotient-large large);
+        product-le = guess-le large s (s / q) (s - s / q * q) h refl refl;
+        left-fits = left-le large s (s / q) (s - s / q * q) h refl refl;
+        right-fits = right-le large s (s / q) (s - s / q * q) h refl refl;
+        exact = fixed-guess large s (s / q) (s - s / q * q) h refl refl;
+        some = guess-some large s (s / q) (s - s / q * q) h refl refl;
+        less = fixed-less large s (s / q) (s - s / q * q) h refl refl;
+      }
 
   -- what fixed seats take of a stake, in two parts that fit
   pub taken-is : (f : ℕ) → f * T / k ≡ f * q + f * r / k

@@ -1,11 +1,20 @@
 -- `fait_accompli::fixed::fixed_seats` meets its contract.
 use Prim.Native.Nat.{_-_, _*_, _/_}
-use mathlib.Core.Path.{refl}
 use native.Mathlib.Omega.{arith}
-use Rattle.fait_accompli.proofs.FloorLaws.{fixed-none, product-fits, quotient-large, guess-le, left-le, right-le, fixed-guess, guess-some, fixed-less}
+use Rattle.fait_accompli.proofs.FloorLaws.{fixed-none, product-fits, Guess, guess}
 use borrow.Author.Needs.{needs}
 use Rattle.fait_accompli.proofs.fixed.fixed_seats.Statement.{statement}
 use Rattle.fait_accompli.proofs.fixed.fixed_seats.Tie as tie
+
+-- the guess, where the product could pass 64 bits
+here : (c : tie.Else2) →
+    let s = c .before .before in
+    let a = s .args in
+    Guess (a .total) (a .k) (a .quotient) (a .remainder) (s .pre .0) (a .stake) (a .stake / a .quotient) (a .stake - a .stake / a .quotient * a .quotient)
+here c =
+    let s = c .before .before in
+    let a = s .args in
+    guess (a .total) (a .k) (a .quotient) (a .remainder) (s .pre .0) (c .if2 .left) (a .stake) (s .pre .1)
 
 returns : tie.Need-returns
 returns c =
@@ -26,60 +35,28 @@ returns-2 : tie.Need-returns-2
 returns-2 c = search needs
 
 div-guess : tie.Need-div-guess
-div-guess c =
-    let s = c .before .before in
-    let a = s .args in
-    let l = c .if2 .left in
-    omega (arith, quotient-large (a .total) (a .k) (a .quotient) (a .remainder) (s .pre .0) l)
+div-guess c = here c .divides
 
 mul-rest : tie.Need-mul-rest
-mul-rest c =
-    let s = c .before .before in
-    let a = s .args in
-    let l = c .if2 .left in
-    omega (arith, guess-le (a .total) (a .k) (a .quotient) (a .remainder) (s .pre .0) l (a .stake) (a .stake / a .quotient) (a .stake - a .stake / a .quotient * a .quotient) (s .pre .1) refl refl, s .fits .stake)
+mul-rest c = omega (arith, here c .product-le, c .before .before .fits .stake)
 
 sub-rest : tie.Need-sub-rest
-sub-rest c =
-    let s = c .before .before in
-    let a = s .args in
-    let l = c .if2 .left in
-    guess-le (a .total) (a .k) (a .quotient) (a .remainder) (s .pre .0) l (a .stake) (a .stake / a .quotient) (a .stake - a .stake / a .quotient * a .quotient) (s .pre .1) refl refl
+sub-rest c = here c .product-le
 
 mul-if3 : tie.Need-mul-if3
-mul-if3 c =
-    let s = c .before .before in
-    let a = s .args in
-    let l = c .if2 .left in
-    omega (arith, left-le (a .total) (a .k) (a .quotient) (a .remainder) (s .pre .0) l (a .stake) (a .stake / a .quotient) (a .stake - a .stake / a .quotient * a .quotient) (s .pre .1) refl refl, s .fits .stake)
+mul-if3 c = omega (arith, here c .left-fits, c .before .before .fits .stake)
 
 mul-if3-2 : tie.Need-mul-if3-2
-mul-if3-2 c =
-    let s = c .before .before in
-    let a = s .args in
-    let l = c .if2 .left in
-    omega (arith, right-le (a .total) (a .k) (a .quotient) (a .remainder) (s .pre .0) l (a .stake) (a .stake / a .quotient) (a .stake - a .stake / a .quotient * a .quotient) (s .pre .1) refl refl, s .fits .total)
+mul-if3-2 c = omega (arith, here c .right-fits, c .before .before .fits .total)
 
 sub-result : tie.Need-sub-result
-sub-result c =
-    let s = c .before .before .before in
-    let a = s .args in
-    let l = c .before .if2 .left in
-    guess-some (a .total) (a .k) (a .quotient) (a .remainder) (s .pre .0) l (a .stake) (a .stake / a .quotient) (a .stake - a .stake / a .quotient * a .quotient) (s .pre .1) refl refl (c .if3 .left)
+sub-result c = here (c .before) .some (c .if3 .left)
 
 returns-3 : tie.Need-returns-3
-returns-3 c =
-    let s = c .before .before .before in
-    let a = s .args in
-    let l = c .before .if2 .left in
-    fixed-guess (a .total) (a .k) (a .quotient) (a .remainder) (s .pre .0) l (a .stake) (a .stake / a .quotient) (a .stake - a .stake / a .quotient * a .quotient) (s .pre .1) refl refl (c .if3 .taken)
+returns-3 c = here (c .before) .exact (c .if3 .taken)
 
 returns-4 : tie.Need-returns-4
-returns-4 c =
-    let s = c .before .before .before in
-    let a = s .args in
-    let l = c .before .if2 .left in
-    fixed-less (a .total) (a .k) (a .quotient) (a .remainder) (s .pre .0) l (a .stake) (a .stake / a .quotient) (a .stake - a .stake / a .quotient * a .quotient) (s .pre .1) refl refl (c .if3 .left)
+returns-4 c = here (c .before) .less (c .if3 .left)
 
 pub fixed-seats-spec : {M : Type 1} → statement M
 fixed-seats-spec =
