@@ -1,6 +1,5 @@
 -- Weights in an order; the values that are drawn for bins, before anything is known of their shares; and the validators that they choose.
-use Prim.Native.Nat.{ℕ, zero, suc, _+_, _-_, _*_, _≤_, _<_, min}
-use mathlib.Core.Path.{_≡_}
+use Prim.Native.Nat.{ℕ, zero, suc, _+_, _-_, _*_, _<_, min}
 use mathlib.Core.List.{List, [], _∷_, map}
 use lib.ListN.{length, getD}
 use Rattle.laws.specs.Sums.{total}

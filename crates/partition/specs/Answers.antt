@@ -3,12 +3,9 @@ use Prim.Native.Nat.{ℕ}
 use mathlib.Core.Path.{_≡_}
 use mathlib.Core.List.{List}
 use lib.ListN.{length}
-use Rattle.refusals.specs.Refusals.{noWordLeft}
 use Rattle.words.specs.Outcome.{Outcome, refused, accepted, wordsRead}
 use Rattle.partition.specs.declared.answers.PartitionAnswer.{PartitionAnswer}
 use Rattle.partition.specs.declared.answers.PartitionAnswer.the-variants as answer
-use Rattle.fill.specs.declared.values.Values.{Values}
-use Rattle.fill.specs.declared.values.Values.the-variants as values
 use Rattle.partition.specs.declared.seats.Read.{Read}
 use Rattle.partition.specs.declared.seats.Read.the-variants as read
 use Rattle.partition.specs.Seats.{Parted}
