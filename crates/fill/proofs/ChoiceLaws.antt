@@ -5,7 +5,7 @@ use mathlib.Core.List.{List, [], _∷_, _++_, map, append-assoc}
 use native.Mathlib.Omega.{arith}
 use lib.ListN.{length, getD, take, length-map, length-append, List·getD-append}
 use lib.Seq.{getD-append-add, take-at}
-use Rattle.laws.specs.Sums.{total, sumOf}
+use Rattle.laws.specs.Sums.{total}
 use Rattle.laws.proofs.Sums.{total-append}
 use Rattle.words.specs.Outcome.{Outcome, refused, accepted, next, each, giving}
 use Rattle.draws.specs.declared.weighted.Place.{Place}
@@ -15,7 +15,7 @@ use Rattle.draws.proofs.WeightedLaws.{Chosen, chosen-is, chosen-before, chosen-
 use Rattle.fill.specs.Fill.{Share, Piece, taken, left, fill, numbered, pieces, validatorsOf, stakesOf}
 use Rattle.fill.specs.Values.{shareStakes, holder, seatOf, seat}
 use Rattle.fill.specs.Values.{binTotal, binSums, Low, InBins, choices, seatsAt}
-use Rattle.fill.proofs.FillLaws.{taken-total, left-total, fill-adds, stake-additive}
+use Rattle.fill.proofs.FillLaws.{pieces-sum, taken-total, left-total, fill-adds, stake-additive}
 use Rattle.fill.proofs.ValueLaws.{sums-at}
 
 pub seats-by-values : (bins : List (List Share)) (ws : List ℕ) → each seat bins ws ≡ giving (choices bins) (each below (map binTotal bins) ws)
@@ -50,14 +50,9 @@ module _ (j : ℕ) where
   numbered-validators [] ps = refl
   numbered-validators (x ∷ xs) ps = ap (x .validator ∷_) (numbered-validators xs ps)
 
-pub pieces-total : (j : ℕ) (bins : List (List Share)) → total (stakesOf (pieces j bins)) ≡ sumOf binTotal bins
-pieces-total j [] = refl
-pieces-total j (xs ∷ bins) =
-    ap total (numbered-stakes j xs (pieces (j + 1) bins)) ∙ total-append (shareStakes xs) (stakesOf (pieces (j + 1) bins)) ∙ ap (binTotal xs +_) (pieces-total (j + 1) bins)
-
 -- the stakes of all pieces are all there is
 pub pieces-whole : (cap b j : ℕ) (xs : List Share) → binTotal xs ≤ b * cap → total (stakesOf (pieces j (fill cap b xs))) ≡ binTotal xs
-pieces-whole cap b j xs h = pieces-total j (fill cap b xs) ∙ fill-adds stake-additive cap b xs h
+pieces-whole cap b j xs h = pieces-sum (λ v a. a) j (fill cap b xs) ∙ fill-adds stake-additive cap b xs h
 
 -- ---- a value in its bin, and among all pieces
 

@@ -9,6 +9,7 @@ use lib.ListN.{length, getD, length-append}
 use borrow.Author.Tests.{leb-true, leb-false, le-leb, lt-leb, ltb-true, ltb-false, lt-ltb}
 use Rattle.laws.specs.Sums.{total, sumOf}
 use Rattle.laws.specs.Counts.{consIf}
+use Rattle.laws.proofs.Lists.{sum-append}
 use Rattle.fill.specs.Fill.{Share, put, taken, left, fill, numbered, pieces}
 use Rattle.fill.specs.Values.{shareStakes}
 
@@ -233,6 +234,16 @@ module _ (f : ℕ → ℕ → ℕ) (g : ℕ → ℕ) (h : (i x : ℕ) → 0 < x 
 pub fill-nothing : (cap b j : ℕ) → pieces j (fill cap b []) ≡ []
 fill-nothing cap zero j = refl
 fill-nothing cap (suc b) j = fill-nothing cap b (j + 1)
+
+-- sums over the pieces of a bin, and of all bins
+pub numbered-sum : (f : ℕ → ℕ → ℕ) (j : ℕ) (xs : List Share) → sumOf (λ p. f (p .validator) (p .stake)) (numbered j xs) ≡ measure f xs
+numbered-sum f j [] = refl
+numbered-sum f j (x ∷ xs) = ap (f (x .validator) (x .stake) +_) (numbered-sum f j xs)
+
+pub pieces-sum : (f : ℕ → ℕ → ℕ) (j : ℕ) (bins : List (List Share)) → sumOf (λ p. f (p .validator) (p .stake)) (pieces j bins) ≡ sumOf (measure f) bins
+pieces-sum f j [] = refl
+pieces-sum f j (xs ∷ bins) =
+    sum-append (λ p. f (p .validator) (p .stake)) (numbered j xs) (pieces (j + 1) bins) ∙ omega (arith, numbered-sum f j xs, pieces-sum f (j + 1) bins)
 
 -- the pieces number as many as the shares of the bins
 pub pieces-number : (j : ℕ) (bins : List (List Share)) → length (pieces j bins) ≡ sumOf number bins

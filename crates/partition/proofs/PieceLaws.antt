@@ -11,7 +11,7 @@ use borrow.Author.Tests.{eq-eqb, ne-eqb}
 use Rattle.laws.specs.Sums.{total, sumOf}
 use Rattle.laws.specs.Counts.{countBelow, count}
 use Rattle.laws.specs.Orders.{Permutation}
-use Rattle.laws.proofs.Lists.{sum-append, those-append, those-sum, those-length}
+use Rattle.laws.proofs.Lists.{those-append, those-sum, those-length}
 use Rattle.refusals.specs.declared.Refusal.the-variants.{None}
 use Rattle.refusals.specs.Refusals.{lowest, emptyBin}
 use Rattle.refusals.proofs.CheckLaws.{last-passed}
@@ -29,7 +29,7 @@ use Rattle.fill.specs.Values.{inOrder, shareStakes, holder, seatOf, seat}
 use Rattle.partition.specs.Seats.{capacity, idsFrom, Parted, overBins, seatIds}
 use Rattle.partition.specs.Calls.{Places, quorumChecks}
 use Rattle.partition.specs.Pieces.{inBin, of, sumOfPieces, chooses, Filled, PartitionsFilled}
-use Rattle.fill.proofs.FillLaws.{Additive, measure, tally, fill-sums, fill-long, fill-adds, fill-single, fill-two, fill-positive}
+use Rattle.fill.proofs.FillLaws.{numbered-sum, pieces-sum, Additive, measure, tally, fill-sums, fill-long, fill-adds, fill-single, fill-two, fill-positive}
 use Rattle.partition.proofs.OrderLaws.{order-long, order-total, order-weight, order-once, order-within}
 use Rattle.partition.proofs.CallLaws.{bySize, bySum, capacity-fits, last-some}
 use Rattle.fill.proofs.FillingLaws.{whole-number}
@@ -78,16 +78,6 @@ in-bin i j zero (xs ∷ bins) e =
 in-bin i j (suc t) (xs ∷ bins) e =
     those-append (λ p. eqb (p .bin) i) (numbered j xs) (pieces (j + 1) bins)
     ∙ rw (numbered-none i j xs (λ q. omega arith)) (in-bin i (j + 1) t bins (omega arith))
-
--- sums over the pieces of a bin, and of all bins
-numbered-sum : (f : ℕ → ℕ → ℕ) (j : ℕ) (xs : List Share) → sumOf (λ p. f (p .validator) (p .stake)) (numbered j xs) ≡ measure f xs
-numbered-sum f j [] = refl
-numbered-sum f j (x ∷ xs) = ap (f (x .validator) (x .stake) +_) (numbered-sum f j xs)
-
-pub pieces-sum : (f : ℕ → ℕ → ℕ) (j : ℕ) (bins : List (List Share)) → sumOf (λ p. f (p .validator) (p .stake)) (pieces j bins) ≡ sumOf (measure f) bins
-pieces-sum f j [] = refl
-pieces-sum f j (xs ∷ bins) =
-    sum-append (λ p. f (p .validator) (p .stake)) (numbered j xs) (pieces (j + 1) bins) ∙ omega (arith, numbered-sum f j xs, pieces-sum f (j + 1) bins)
 
 -- the stake of a validator's pieces, and their number
 pub of-sum : (i : ℕ) (ps : List Piece) → sumOfPieces (of i ps) ≡ sumOf (λ p. own i (p .validator) (p .stake)) ps
