@@ -24,6 +24,10 @@ lowest (c ∷ cs) = cond (c .applies) (Number (c .number)) (lowest cs)
 abbrev pub listLength : ℕ → Check
 listLength n = record { number = 1; applies = ltb 4096 n || eqb n 0 }
 
+-- "(the shuffle takes an empty one)"
+abbrev pub longList : ℕ → Check
+longList n = record { number = 1; applies = ltb 4096 n }
+
 -- "k or b over 1,024"
 abbrev pub size : ℕ → Check
 size k = record { number = 2; applies = ltb 1024 k }

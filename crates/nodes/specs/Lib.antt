@@ -1,0 +1,4 @@
+pub mod Index
+pub mod Node
+pub mod Run
+pub mod Walks
