@@ -1,0 +1,22 @@
+-- `weighted_shuffle::begin::counts` meets its contract.
+use borrow.Author.Needs.{needs}
+use Prim.Native.Nat.{_+_, _^_}
+use native.Mathlib.Omega.{arith}
+use borrow.Author.Tests.{le-leb, lt-leb}
+use Rattle.weighted_shuffle.proofs.begin.counts.Statement.{statement}
+use Rattle.weighted_shuffle.proofs.begin.counts.Tie as tie
+
+-- src/begin.rt:40:8
+sub-if1 : tie.Need-sub-if1
+sub-if1 c = search needs
+
+-- src/begin.rt:37:1
+returns : tie.Need-returns
+returns c = rw (le-leb (2 ^ 64) (c .before .args .sum + c .before .args .weight) (omega (arith, c .if1 .taken)))
+
+-- src/begin.rt:37:1
+returns-2 : tie.Need-returns-2
+returns-2 c = rw (lt-leb (2 ^ 64) (c .before .args .sum + c .before .args .weight) (omega (arith, c .if1 .left, c .before .fits .sum .fits)))
+
+pub counts-spec : {M : Type 1} → statement M
+counts-spec = tie.close (tie.spec sub-if1 returns returns-2)

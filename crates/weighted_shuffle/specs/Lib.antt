@@ -1,0 +1,5 @@
+pub mod Order
+pub mod Calls
+pub mod Answers
+pub mod Progress
+pub mod Laws
