@@ -504,6 +504,70 @@ def view_cases(rng):
                 yield case("turbine", stakes=stakes, fanout=fanout, own=own, words=supply)
 
 
+# ---- The limits of the shuffle ----
+
+def few_digits(need):
+    """Words below 4,096 that are spread evenly, and more than are needed."""
+    return [word >> 52 for word in spread(need)]
+
+
+def weight_lists():
+    """Every length; zeros, equal weights, and sums of 2^64 - 1."""
+    for n in LENGTHS + LONG_LENGTHS:
+        yield [(i + 1) % 3 for i in range(n)]
+    for n in (1, 3, 17):
+        yield [0] * n
+    for n in (2, 16, 17, 33):
+        yield [7] * n
+    for n in (1, 2, 16, 17, 257):
+        yield [TOP // n] * (n - 1) + [TOP - TOP // n * (n - 1)]
+
+
+def overflowing_lists():
+    """Weights that would take the sum past 2^64 - 1, at each place and at several."""
+    for n in (3, 5, 18):
+        for place in range(n):
+            yield [TOP if i == place else 5 for i in range(n)]
+    yield from ([HALF, HALF - 1, 1, 0], [HALF, HALF, 1, HALF, HALF - 2, 0, 2],
+                [3, 0, TOP, 0, 4], [HALF if i % 5 == 0 else i % 2 for i in range(35)])
+
+
+def dry_shuffles():
+    """Words that run out at every place: in the weights, in the zeros, in those that overflow."""
+    for stakes, supply in (([0, 3, 0, 0, 4, 1], [7, 0, 3, 2, 1, 0]), ([0, 0, 0], [2, 0, 0]),
+                           ([TOP - 1, 2, 1, 1], [TOP - 1, 5, 1, 0])):
+        for n in range(len(supply) + 1):
+            yield stakes, supply[:n]
+
+
+def skipping_shuffles():
+    """Words that are skipped: below 3, 6 and 9 the highest, below 2^63 + 1 all from there on."""
+    for supply in ([TOP, 4, TOP - 1, TOP, 2, TOP, 1], [8, TOP], [TOP] * 3):
+        yield [3, 3, 3], supply
+        yield [0, 0, 0], supply
+    yield [HALF, 0, 1], [TOP, HALF + 1, HALF, 7, 0]
+
+
+def valued_shuffles():
+    """Every value of a first draw, and zeros that move into the gap."""
+    for stakes in ([2, 3, 1], [0, 2, 0, 3, 0]):
+        for value in range(sum(stakes)):
+            yield stakes, [value] + [0] * len(stakes)
+    for n in (3, 4, 17):
+        yield [0] * n, [0] * n
+
+
+def shuffle_cases():
+    for stakes in (*weight_lists(), *overflowing_lists()):
+        supply = few_digits if sum(stakes) < HALF else spread
+        yield case("tree", stakes=stakes)
+        yield case("shuffle", stakes=stakes, words=supply(len(stakes)))
+    for stakes, supply in (*dry_shuffles(), *skipping_shuffles(), *valued_shuffles()):
+        yield case("shuffle", stakes=stakes, words=supply)
+    # Past the longest list, where the tree has one level more.
+    yield case("tree", stakes=[0] * 2**16)
+
+
 LIMITS = (length_cases, size_cases, sum_cases, worked_cases, whole_seat_cases, no_seat_cases,
           dry_cases, decaying_cases, last_try_cases, later_try_cases, rejected_once_cases,
           dry_try_cases, long_list_cases, scratch_cases, zero_stake_cases, skip_cases, lowest_cases,
@@ -511,12 +575,13 @@ LIMITS = (length_cases, size_cases, sum_cases, worked_cases, whole_seat_cases, n
 
 
 def cases(n):
-    """About n cases: the limits, all of them for any n, then random ones."""
+    """About n cases: the limits, all of them for any n, then random ones. The limits of the shuffle
+    come last and are not among the n, so that the random cases stay the same."""
     rng = random.Random(SEED)
     lines = [line for limit in LIMITS for line in limit(rng)]
     while len(lines) < n:
         lines.append(rng.choice(GENERATORS)(rng))
-    return lines
+    return lines + list(shuffle_cases())
 
 
 def main():

@@ -1,6 +1,6 @@
 #!/usr/bin/env python3
 """`compare.py ORACLE N`: the model and the oracle's binary over about N cases and
-the stored cases of the samplers.
+the stored cases of the samplers and the shuffle.
 
 A difference is explained if the condition of a known kind holds of the case and
 the oracle's answer is the one that the known kinds, taken together, lead to.

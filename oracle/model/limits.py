@@ -1,4 +1,5 @@
-"""What the stored lists of the samplers must show, as named conditions on a stored case.
+"""What the stored lists of the samplers and the shuffle must show, as named conditions on a stored
+case.
 
 store.py picks the cases so that each condition is met; test_model.py looks for each of them in the
 lists as they are stored.
@@ -6,10 +7,12 @@ lists as they are stored.
 
 import math
 from collections import Counter
+from itertools import accumulate
 from typing import NamedTuple
 
 from model import (MAX_COUNT, MAX_LIST, MAX_SEATS, MAX_TRIES, WORD_END, Refused, Words, bits_of,
-                   fa1_fixed, list_shuffle, pieces_needed)
+                   counted_weights, fa1_fixed, list_shuffle, nodes_needed, pieces_needed,
+                   zero_positions)
 
 TOP = WORD_END - 1
 HALF = 2**63
@@ -20,7 +23,7 @@ REFUSED_MAX_SAMPLES = (math.nan, 0.0, -0.0, -1.0, -math.inf)
 
 def word_lists(given):
     """What the names of a case's lists of words end with."""
-    return ("", "2") if "words2" in given else ("",)
+    return [which for which in ("", "2") if "words" + which in given]
 
 
 class Stored(NamedTuple):
@@ -109,6 +112,23 @@ class Stored(NamedTuple):
             return []
         return [word % sum(pieces) for word, pieces in zip(self.words("2"), self.bins)]
 
+    # ---- Of the shuffle ----
+
+    @property
+    def zeros(self):
+        """The positions that count as zeros."""
+        return zero_positions(counted_weights(self.stakes))
+
+    @property
+    def overflowing(self):
+        """The positions of the weights that would take the sum past 2^64 - 1."""
+        return [p for p in self.zeros if self.stakes[p] > 0]
+
+    @property
+    def first_value(self):
+        """The value drawn first, where no word is skipped."""
+        return self.words()[0] % sum(counted_weights(self.stakes))
+
 
 def refused(number, holds=lambda c: True):
     return lambda c: c.refusal == number and holds(c)
@@ -124,16 +144,20 @@ def lengths(*numbers):
     return {f"{n} validators": accepted(lambda c, n=n: c.n == n) for n in numbers}
 
 
+ZEROS = {
+    "a zero first": accepted(lambda c: c.n > 0 and c.stakes[0] == 0),
+    "a zero last": accepted(lambda c: c.n > 0 and c.stakes[-1] == 0),
+    "a zero in the middle": accepted(
+        lambda c: 0 in c.stakes[1:-1] and c.stakes[0] > 0 and c.stakes[-1] > 0),
+}
+
 LISTS = {
     "one validator": accepted(lambda c: c.n == 1),
     "no validator": refused(1, lambda c: c.n == 0),
     "a sum of 2^64 - 1": accepted(lambda c: c.total == TOP),
     "a sum of 2^64": refused(8, lambda c: c.total == TOP + 1),
     "no stake": refused(9),
-    "a zero first": accepted(lambda c: c.stakes[0] == 0),
-    "a zero last": accepted(lambda c: c.stakes[-1] == 0),
-    "a zero in the middle": accepted(
-        lambda c: 0 in c.stakes[1:-1] and c.stakes[0] > 0 and c.stakes[-1] > 0),
+    **ZEROS,
 }
 
 LONGEST_LISTS = {
@@ -423,7 +447,95 @@ PLAIN_DRAWS = {
     "a second list from past the end": accepted(lambda c: c.past_end("2") and c.draws > 0),
 }
 
+# ---- The shuffle ----
+
+COUNTS = (0, 1, 2, 15, 16, 17, 255, 256, 257, 272, 273, MAX_LIST - 1, MAX_LIST)
+
+SIZES = {f"{n} weights": accepted(lambda c, n=n: c.given["count"] == n)
+         for n in (*COUNTS, MAX_LIST + 1, 2**16)}
+
+
+def takes_to(total):
+    """A weight that takes the sum of those before to this total."""
+    return accepted(lambda c: any(
+        0 < before == total - weight for before, weight in
+        zip(accumulate(counted_weights(c.stakes), initial=0), c.stakes)))
+
+
+WEIGHTS = {
+    **{f"{n} weights": accepted(lambda c, n=n: c.n == n) for n in COUNTS},
+    "4,097 weights": refused(1, lambda c: c.n == MAX_LIST + 1 <= c.given["room"]),
+    "4,097 weights and little room": refused(1, lambda c: c.n == MAX_LIST + 1 > c.given["room"]),
+    **ZEROS,
+    **{f"{n} zeros": accepted(lambda c, n=n: c.stakes == [0] * n) for n in (1, 3, 17)},
+    **{f"{n} equal weights": accepted(
+        lambda c, n=n: c.n == n and c.stakes[0] > 0 and len(set(c.stakes)) == 1)
+       for n in (2, 16, 17, 33)},
+    "2^64 - 1 alone": accepted(lambda c: c.stakes == [TOP]),
+    **{f"{n} weights with the sum 2^64 - 1": accepted(
+        lambda c, n=n: c.n == n and c.total == TOP and 0 not in c.stakes)
+       for n in (2, 16, 17, 257)},
+    "a weight that takes the sum to 2^64 - 1": takes_to(TOP),
+    "a weight that takes the sum to 2^64": takes_to(TOP + 1),
+    "the second weight overflows": accepted(lambda c: c.n > 2 and c.overflowing == [1]),
+    "a weight in the middle overflows": accepted(
+        lambda c: len(c.overflowing) == 1 and 1 < c.overflowing[0] < c.n - 1),
+    "the last weight overflows": accepted(lambda c: c.n > 2 and c.overflowing == [c.n - 1]),
+    "weights of several nodes overflow": accepted(
+        lambda c: len({p // 16 for p in c.overflowing}) > 1),
+    "every weight but the first overflows": accepted(
+        lambda c: c.n > 2 and c.overflowing == list(range(1, c.n))),
+    "a weight that counts, after one that overflows": accepted(
+        lambda c: c.overflowing and any(counted_weights(c.stakes)[c.overflowing[0]:])),
+    "a weight that overflows, between zeros": accepted(
+        lambda c: any(c.stakes[p - 1:p + 2:2] == [0, 0] for p in c.overflowing)),
+}
+
+
+def lent_places(name, needed):
+    """A buffer with as many places as needed, more, and one too few."""
+    def places(c):
+        return c.given[name] - needed(c)
+
+    return {
+        **{f"{name}: {more} more": accepted(lambda c, more=more: places(c) == more and c.n > 0)
+           for more in (0, 2)},
+        f"{name}: one too few": refused(7, lambda c: places(c) == -1),
+        f"{name}: none needed": accepted(lambda c: c.given[name] == c.n == 0),
+    }
+
+
+BEGIN = {
+    **lent_places("room", lambda c: c.n),
+    **lent_places("room_nodes", lambda c: nodes_needed(c.stakes)),
+    **{f"a node too few for {n} weights": refused(
+        7, lambda c, n=n: c.n == n and c.given["room_nodes"] == nodes_needed(c.stakes) - 1)
+       for n in (1, 17, 257)},
+}
+
 FIVE_STAKES = [2, 0, 3, 1, 5]
+
+SHUFFLE = {
+    **lent_places("room", lambda c: c.n),
+    "little room and no word": refused(7, lambda c: not c.words()),
+    **word_limits(needed=lambda c: c.n),
+    "no word needed from past the end": accepted(lambda c: c.past_end()),
+    "a word skipped, no zero": accepted(lambda c: not c.zeros and c.answer["read"] > c.n),
+    "a word skipped, only zeros": accepted(lambda c: c.total == 0 and c.answer["read"] > c.n),
+    **words_end(5, stakes=FIVE_STAKES),
+    **words_end(6, stakes=[0, 3, 0, 0, 4, 1]),
+    **words_end(3, stakes=[0, 0, 0]),
+    **words_end(4, stakes=[TOP - 1, 2, 1, 1]),
+    "a zero first, where 0 is drawn": accepted(
+        lambda c: c.total > 0 and c.stakes[0] == c.first_value == 0),
+    **{f"the value {name} a running sum": accepted(
+        lambda c, less=less: c.n > 1 and not c.zeros and c.first_value == c.stakes[0] - less)
+       for name, less in (("that reaches", 0), ("below", 1))},
+    "the highest value": accepted(
+        lambda c: c.n > 2 and not c.zeros and c.first_value == c.total - 1),
+    "a zero that moved into the gap": accepted(
+        lambda c: c.n > 2 and c.total == 0 and c.answer["order"][:2] == [0, c.n - 1]),
+}
 
 # The limits of each function, by the crate of the program that replays it. The longest lists are
 # asked for once of FA1's two fallbacks.
@@ -456,5 +568,10 @@ LIMITS = {
                                **words_end(2, "2", stakes=FIVE_STAKES, k=4)},
         "stake_weighted_fallback": {**LISTS, **ZERO_DRAWN, **BIN_SCRATCH, **WORDS, **COMMITTEES,
                                     **FA1, **PLAIN_DRAWS, **words_end(2, stakes=FIVE_STAKES, k=5)},
+    },
+    "weighted_shuffle_cases": {
+        "get_num_nodes_and_tree_size": SIZES,
+        "begin": {**WEIGHTS, **BEGIN},
+        "shuffle": {**WEIGHTS, **SHUFFLE},
     },
 }

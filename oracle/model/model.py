@@ -254,6 +254,11 @@ def pieces_needed(stakes, bins):
     return len(stakes) + bins if bins > 0 else 0
 
 
+def nodes_needed(stakes):
+    """The tree size."""
+    return tree_shape(len(stakes))[1]
+
+
 def check_seats(stakes, k=0, least_k=0, allowed=1, max_samples=1.0, room=None, counts=None,
                 piece_rooms=()):
     """`room` is how many seats the lent buffer takes, where one is lent; `piece_rooms` are the
@@ -269,6 +274,13 @@ def check_seats(stakes, k=0, least_k=0, allowed=1, max_samples=1.0, room=None, c
     refuse_if(9, sum(stakes) == 0)
 
 
+def check_shuffle(stakes, room=None, room_nodes=None):
+    """An empty list is taken."""
+    refuse_if(1, len(stakes) > MAX_LIST)
+    refuse_if(7, is_short(room, len(stakes)))
+    refuse_if(7, is_short(room_nodes, nodes_needed(stakes)))
+
+
 def check_view(stakes, fanout, own):
     refuse_if(1, not 1 <= len(stakes) <= MAX_LIST)
     refuse_if(5, not 1 <= fanout <= MAX_FANOUT)
@@ -281,8 +293,9 @@ def check_counts(stakes, counts, k):
 
 # ---- Operations: the fields of a case to the fields of its answer ----
 # Fields of stored cases alone: `cursor` and `cursor2` are the places in `words` and `words2` from
-# which words are read, `room` is how many seats the lent buffer takes, and `room_bins`,
-# `room_validators` and `room_stakes` are the places of the buffers for pieces.
+# which words are read, `room` is how many seats or positions the lent buffer takes, `room_bins`,
+# `room_validators` and `room_stakes` are the places of the buffers for pieces, and `room_nodes` is
+# how many nodes are lent.
 
 OPERATIONS = {}
 
@@ -386,8 +399,9 @@ def answer_tree(stakes):
 
 
 @operation
-def answer_shuffle(stakes, words):
-    refuse_if(1, len(stakes) > MAX_LIST)
+def answer_shuffle(stakes, words, cursor=0, room=None):
+    check_shuffle(stakes, room)
+    words = words.past(cursor)
     return {"order": shuffle_order(stakes, words), "read": words.read}
 
 

@@ -3,8 +3,9 @@
 
 `store.py --check` writes nothing and ends with 1 if a stored list is not what
 would be written. The cases are some of those that compare.py holds against the
-oracle; what they expect is the model's answer. Cases of the samplers get
-cursors and lent buffers besides, and are picked so that limits.py is met.
+oracle; what they expect is the model's answer. Cases of the samplers and of the
+shuffle get cursors and lent buffers besides, and are picked so that limits.py is
+met. Every list is stored whole, the sums and the order of 4,096 weights too.
 
 A stored case is a line: the number of the function and its name, its fields,
 then `answer:` with 0 and the fields of the answer, or with the refusal's number.
@@ -22,10 +23,11 @@ from limits import LIMITS, PIECE_ROOMS, TOP, Stored, word_lists
 CRATES = Path(__file__).resolve().parents[2] / "crates"
 COMPARED = 20_000
 DRAWS_OF_EACH, DRAWS_LONGEST = 100, 2_000
-OF_EACH, RESETS = 150, 30
+# Of a sampler or the shuffle, and of a function without words.
+OF_EACH, OF_SIMPLE = 150, 30
 # A longer line is stored only where a limit needs it.
 LONGEST = {"stake_weighted_cases": 1_500, "decaying_acceptance_cases": 1_500,
-           "partition_cases": 600, "fait_accompli_cases": 600}
+           "partition_cases": 600, "fait_accompli_cases": 600, "weighted_shuffle_cases": 600}
 
 # The functions of each program, in the order of their numbers, and the operation in FORMAT.md that
 # their cases are taken from.
@@ -38,6 +40,8 @@ PROGRAMS = {
     "partition_cases": {"sample_quorum": "partition"},
     "fait_accompli_cases": {"partition_fallback": "fa1_bins",
                             "stake_weighted_fallback": "fa1_draws"},
+    "weighted_shuffle_cases": {"get_num_nodes_and_tree_size": "tree", "begin": "tree",
+                               "shuffle": "shuffle"},
 }
 
 # Words that stand before the cursor.
@@ -97,6 +101,12 @@ def answer_of(function, operation, given):
     """The fields of the model's answer as they are stored."""
     if function == "reset":
         return {"counts": model.reset_counts(given["counts"])}
+    if function == "get_num_nodes_and_tree_size":
+        return dict(zip(("num_nodes", "size"), model.tree_shape(given["count"])))
+    if function == "begin":
+        model.check_shuffle(**given)
+        tree = model.answer_fields(operation, {"stakes": given["stakes"]})
+        return {name: tree[name] for name in ("weight", "sums", "zeros")}
     if function == "sample":
         answer = model.answer_fields(operation, {**given, "k": 1})
         return {"id": answer["seats"][0], "read": answer["read"]}
@@ -138,6 +148,9 @@ def draw_lines(program, function, own):
 
 def places_needed(function, given):
     """How many places of each lent buffer the call needs, but for counts."""
+    if function in ("begin", "shuffle"):
+        nodes = {"room_nodes": model.nodes_needed(given["stakes"])} if function == "begin" else {}
+        return {"room": len(given["stakes"]), **nodes}
     size = given.get("k", given.get("bins"))
     needed = {} if size is None else {"room": size}
     if "words2" in given:
@@ -156,9 +169,9 @@ def lent(function, given, i):
     """A case from a cursor on, with the places that it needs or a few more, and counts past the
     list."""
     needed = places_needed(function, given)
-    given = {**given, **from_cursor(given, "", CURSORS[i % 3])}
-    if "words2" in given:
-        given.update(from_cursor(given, "2", CURSORS[i // 3 % 3]))
+    given = dict(given)
+    for which in word_lists(given):
+        given.update(from_cursor(given, which, CURSORS[(i // 3 if which else i) % 3]))
     more = (i % 4, *MORE_PLACES[i % 4])
     given.update({name: places + spare for (name, places), spare in zip(needed.items(), more)})
     if "counts" in given and i % 5 == 0:
@@ -216,6 +229,16 @@ def reset_cases(own):
         yield answered("reset", None, {"counts": counts})
 
 
+def size_cases(own):
+    for line in own:
+        stakes = model.read_case(line)[1]["stakes"]
+        yield answered("get_num_nodes_and_tree_size", None, {"count": len(stakes)})
+
+
+# How the cases of the functions without words are made, but for `begin`.
+SIMPLE = {"reset": reset_cases, "get_num_nodes_and_tree_size": size_cases}
+
+
 def picked(candidates, limits, of_each, longest):
     """For each limit two short lines that meet it, or a long one; then accepted calls from all
     over."""
@@ -239,9 +262,10 @@ def picked(candidates, limits, of_each, longest):
 
 def sampler_lines(program, function, own):
     operation = PROGRAMS[program][function]
-    stored = reset_cases(own) if function == "reset" else sampler_cases(function, operation, own)
+    simple = SIMPLE.get(function)
+    stored = simple(own) if simple else sampler_cases(function, operation, own)
     candidates = {stored_line(program, function, case): case for case in stored}
-    of_each = RESETS if function == "reset" else OF_EACH
+    of_each = OF_SIMPLE if simple else OF_EACH
     return picked(candidates, LIMITS[program][function], of_each, LONGEST[program])
 
 
@@ -260,7 +284,7 @@ def lists():
     return texts
 
 
-# The fields of the samplers' operations, in the order of FORMAT.md.
+# The fields of the operations of the samplers and the shuffle, in the order of FORMAT.md.
 COMPARED_FIELDS = {
     "iid": ("stakes", "k", "words"),
     "decaying": ("stakes", "k", "max_samples", "allowed", "counts", "words"),
@@ -268,12 +292,15 @@ COMPARED_FIELDS = {
     "partition": ("stakes", "bins", "words", "words2"),
     "fa1_bins": ("stakes", "k", "words", "words2"),
     "fa1_draws": ("stakes", "k", "words"),
+    "tree": ("stakes",),
+    "shuffle": ("stakes", "words"),
 }
 
 
 def as_compared(operation, given):
-    """A stored case as the oracle takes it: the words from the cursor on, and the list's counts."""
-    fields = {"k": 1, **given}
+    """A stored case as the oracle takes it: the words from the cursor on, the list's counts, and
+    zeros where only their number counts."""
+    fields = {"k": 1, "stakes": [0] * given.get("count", 0), **given}
     for which in word_lists(given):
         fields["words" + which] = given["words" + which][given["cursor" + which]:]
     if "counts" in given:
@@ -284,13 +311,13 @@ def as_compared(operation, given):
 
 def is_short(function, given):
     """Whether a lent buffer is shorter than needed. In the Rust none is lent."""
-    few_counts = len(given.get("counts", given["stakes"])) < len(given["stakes"])
+    few_counts = "counts" in given and len(given["counts"]) < len(given["stakes"])
     needed = places_needed(function, given)
     return few_counts or any(given[name] < places for name, places in needed.items())
 
 
 def compared_lines():
-    """The stored cases of the samplers, but for those with a short buffer."""
+    """The stored cases of the samplers and the shuffle, but for those with a short buffer."""
     lines = []
     for program in LIMITS:
         for line in (CRATES / program / "stdin").read_text().splitlines():

@@ -5,6 +5,7 @@ stored lists: what limits.py names is in them."""
 
 import math
 import random
+import re
 import unittest
 
 import model
@@ -365,6 +366,15 @@ class Shuffle(unittest.TestCase):
     def test_empty(self):
         self.assertEqual(ask("shuffle", stakes=[], words=[]), {"order": [], "read": 0})
 
+    def test_cursor(self):
+        whole = ask("shuffle", stakes=[2, 0, 3], words=[4, 1, 0])
+        for before in ([], [9], [9, 9]):
+            words, cursor = before + [4, 1, 0], len(before)
+            self.assertEqual(ask("shuffle", stakes=[2, 0, 3], words=words, cursor=cursor), whole)
+        for cursor in (1, 3, 4, TOP):
+            self.assertEqual(ask("shuffle", stakes=[2, 0, 3], words=[4, 1, 0], cursor=cursor), 12)
+        self.assertEqual(ask("shuffle", stakes=[], words=[], cursor=TOP)["read"], 0)
+
     def test_permutation(self):
         rng = random.Random(2)
         for _ in range(200):
@@ -538,6 +548,19 @@ class Refusals(unittest.TestCase):
         no_places = dict.fromkeys(PIECE_ROOMS, 0)
         self.assertAccepted(self.call("partition", [1, 2], bins=0, **no_places))
 
+    def test_7_order_and_nodes(self):
+        for n, nodes in ((0, 0), (1, 1), (16, 1), (17, 3), (257, 34), (4_096, 273)):
+            stakes, words = [0] * n, [0] * n
+            for more in (0, 1):
+                self.assertAccepted(ask("shuffle", stakes=stakes, words=words, room=n + more))
+                model.check_shuffle(stakes, n + more, nodes + more)
+            if n > 0:
+                self.assertEqual(ask("shuffle", stakes=stakes, words=words, room=n - 1), 7)
+                for room, room_nodes in ((n - 1, nodes), (n, nodes - 1)):
+                    with self.assertRaises(Refused) as refused:
+                        model.check_shuffle(stakes, room, room_nodes)
+                    self.assertEqual(refused.exception.number, 7)
+
     def test_7_counts(self):
         for operation in self.DECAYING:
             for counts in ([0, 0], [0, 0, MAX_COUNT]):
@@ -607,6 +630,13 @@ class Refusals(unittest.TestCase):
         for number, fault in reversed(faults):
             case.update(fault)
             self.assertEqual(ask("decaying", **case), number)
+
+    def test_lowest_of_shuffle(self):
+        case = {"stakes": [1], "words": [0], "room": 4_096}
+        self.assertAccepted(ask("shuffle", **case))
+        for number, fault in ((12, {"words": []}), (7, {"room": 0}), (1, {"stakes": [1] * 4_097})):
+            case.update(fault)
+            self.assertEqual(ask("shuffle", **case), number)
 
     def test_lowest_of_view(self):
         case = {"stakes": [1], "fanout": 1, "own": 0, "words": [0]}
@@ -738,6 +768,8 @@ class StoredLists(unittest.TestCase):
         "partition_cases": {"sample_quorum": {1, 2, 7, 8, 9, 11, 12}},
         "fait_accompli_cases": {"partition_fallback": {1, 2, 7, 8, 9, 11, 12},
                                 "stake_weighted_fallback": {1, 2, 7, 8, 9, 12}},
+        "weighted_shuffle_cases": {"get_num_nodes_and_tree_size": set(), "begin": {1, 7},
+                                   "shuffle": {1, 7, 12}},
     }
 
     def lines(self, program):
@@ -769,7 +801,9 @@ class StoredLists(unittest.TestCase):
 
     def test_programs_have_room(self):
         for program in store.PROGRAMS:
-            self.assertLess(sum(map(len, self.lines(program))), 250_000)
+            source = (store.CRATES / program / "src" / "main.rt").read_text()
+            room = int(re.search(r"let mut text = \[0u8; (\d+)\];", source)[1])
+            self.assertLess(sum(map(len, self.lines(program))), room)
 
 
 if __name__ == "__main__":

@@ -23,6 +23,13 @@ pub struct Given {
     pub expected: Expected,
 }
 
+// How many stakes and words a case has, and what it expects.
+pub struct Inputs {
+    pub stakes: usize,
+    pub words: usize,
+    pub expected: Expected,
+}
+
 // Whether a case is well formed and whether it agrees, and the place after it.
 pub struct Verdict {
     pub formed: bool,
@@ -79,6 +86,28 @@ pub fn read_words(text: &[u8], at: usize, list: &mut [u64], numbers: &mut [u64])
             refusal: e.refusal,
             next: e.next,
         },
+    }
+}
+
+// Reads a case's numbers, stakes and words, and the numbers that it expects.
+pub fn read_case(
+    text: &[u8],
+    at: usize,
+    numbers: &mut [u64],
+    stakes: &mut [u64],
+    list: &mut [u64],
+    wanted: &mut [u64],
+) -> Inputs
+    ensures { λ r. ⌜ at ≤ r .expected .next ⌝ }
+    ensures { λ r. ⌜ Counts (r .stakes) (now (stakes .exit)) ⌝ }
+    ensures { λ r. ⌜ Counts (r .words) (now (list .exit)) ⌝ }
+{
+    let staked = read_inputs(text, at, numbers, stakes);
+    let given = read_words(text, staked.next, list, wanted);
+    Inputs {
+        stakes: staked.count,
+        words: given.count,
+        expected: formed_if(given.expected, staked.found),
     }
 }
 

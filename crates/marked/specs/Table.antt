@@ -16,6 +16,8 @@ use Rattle.partition.specs.Calls as bins
 use Rattle.fait_accompli.specs.declared.sampler.Fallback.the-variants.{Bins}
 use Rattle.fait_accompli.specs.Seats.{fixedOf, keptOf, Committee, seatsOf, piecesOf}
 use Rattle.fait_accompli.specs.Calls as fa1
+use Rattle.tree.specs.Sizes.{sizes}
+use Rattle.weighted_shuffle.specs.Calls.{shuffled}
 
 pub record Row : Type 0 where
   pub gives : List ℕ
@@ -40,6 +42,15 @@ toldParted (refused n) = n ∷ []
 abbrev pub toldCommittee : Outcome Committee → List ℕ
 toldCommittee (accepted c left) = 0 ∷ c .further ∷ (seatsOf c ++ (binsOf (piecesOf c) ++ (validatorsOf (piecesOf c) ++ stakesOf (piecesOf c))))
 toldCommittee (refused n) = n ∷ []
+
+-- the sizes of a tree
+abbrev pub toldSizes : ℕ → List ℕ
+toldSizes n = sizes n .«num_nodes» ∷ sizes n .«tree_size» ∷ []
+
+-- an order: 0 and the positions; or the refusal
+abbrev pub toldOrder : Outcome (List ℕ) → List ℕ
+toldOrder (accepted ps left) = 0 ∷ ps
+toldOrder (refused n) = n ∷ []
 
 -- buffers that are long enough
 abbrev enough : Places
@@ -85,6 +96,12 @@ table =
     ∷ record { gives = toldSeat (countOne (2 ^ 63)); says = 0 ∷ 0 ∷ 1 ∷ [] }
     -- 2^63 − 1 rejected
     ∷ record { gives = toldSeat (countOne (2 ^ 63 - 1)); says = 13 ∷ [] }
+    -- sizes for 16: `num_nodes` 1, tree size 1
+    ∷ record { gives = toldSizes 16; says = 1 ∷ 1 ∷ [] }
+    -- for 17: 17 and 3
+    ∷ record { gives = toldSizes 17; says = 17 ∷ 3 ∷ [] }
+    -- shuffle of 2, 0, 3 with words 4, 1, 0: order 2, 0, 1
+    ∷ record { gives = toldOrder (shuffled (2 ∷ 0 ∷ 3 ∷ []) 3 1 (4 ∷ 1 ∷ 0 ∷ [])); says = 0 ∷ 2 ∷ 0 ∷ 1 ∷ [] }
     ∷ []
 
 -- the row at i; past the table's end, an empty one

@@ -8,36 +8,6 @@ use stake_weighted::SampleAnswer;
 use stake_weighted::StakeWeightedSampler;
 ghost use Prim.Native.Nat.{_≤_};
 ghost use mathlib.Core.Path.{_≡_};
-ghost use Rattle.io.specs.Counts.{Counts};
-
-// How many stakes and words a case has, and what it expects.
-struct Inputs {
-    stakes: usize,
-    words: usize,
-    expected: Expected,
-}
-
-// Reads a case's numbers, stakes and words, and the numbers that it expects.
-fn read_case(
-    text: &[u8],
-    at: usize,
-    numbers: &mut [u64],
-    stakes: &mut [u64],
-    list: &mut [u64],
-    wanted: &mut [u64],
-) -> Inputs
-    ensures { λ r. ⌜ at ≤ r .expected .next ⌝ }
-    ensures { λ r. ⌜ Counts (r .stakes) (now (stakes .exit)) ⌝ }
-    ensures { λ r. ⌜ Counts (r .words) (now (list .exit)) ⌝ }
-{
-    let staked = cases::read_inputs(text, at, numbers, stakes);
-    let given = cases::read_words(text, staked.next, list, wanted);
-    Inputs {
-        stakes: staked.count,
-        words: given.count,
-        expected: cases::formed_if(given.expected, staked.found),
-    }
-}
 
 // One validator, against its id and the words read.
 fn judge_sample(
@@ -70,7 +40,7 @@ fn sample_case(text: &[u8], at: usize) -> Verdict
     let mut stakes = [0u64; 4200];
     let mut list = [0u64; 8192];
     let mut wanted = [0u64; 2];
-    let given = read_case(text, at, &mut numbers, &mut stakes, &mut list, &mut wanted);
+    let given = cases::read_case(text, at, &mut numbers, &mut stakes, &mut list, &mut wanted);
     let n = given.stakes;
     let w = given.words;
     judge_sample(
@@ -130,7 +100,7 @@ fn quorum_case(text: &[u8], at: usize) -> Verdict
     let mut stakes = [0u64; 4200];
     let mut list = [0u64; 8192];
     let mut read = [0u64; 1];
-    let given = read_case(text, at, &mut numbers, &mut stakes, &mut list, &mut read);
+    let given = cases::read_case(text, at, &mut numbers, &mut stakes, &mut list, &mut read);
     let n = given.stakes;
     let w = given.words;
     let mut wanted = [0u64; 1100];

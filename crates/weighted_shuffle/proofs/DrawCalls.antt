@@ -54,7 +54,7 @@ pub drawing-owned : {M : Type 1} (𝓤 : URA M) (H : Heap 𝓤) (A : Atoms 𝓤)
 drawing-owned 𝓤 H A = LL.makes D.the-type D′.the-plain 𝓤 H A
 
 -- what goes to a callee with a `&[u64]` of the caller
-abbrev Lent : {M : Type 1} (𝓤 : URA M) (κ : Lft) (q : Share) (γ : GName) (b o : ℕ) (ws : List ℕ) → Item 𝓤
+abbrev pub Lent : {M : Type 1} (𝓤 : URA M) (κ : Lft) (q : Share) (γ : GName) (b o : ℕ) (ws : List ℕ) → Item 𝓤
 Lent 𝓤 κ q γ b o ws = ‵ (flft κ q) ⊛ Sees 𝓤 u64 κ γ b o ws (length ws)
 
 -- the positions drawn, with the one that was found

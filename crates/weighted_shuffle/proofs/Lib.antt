@@ -9,3 +9,5 @@ pub mod FinishLaws
 pub mod WholeLaws
 pub mod ShuffleLaws
 pub mod DrawCalls
+pub mod LocalArray
+pub mod ShuffleCalls

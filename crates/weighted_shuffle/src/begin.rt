@@ -37,11 +37,8 @@ fn shuffle_refusal(n: usize, room: usize, nodes: usize) -> Refusal
 fn counts(sum: u64, weight: u64) -> u64
     ensures { λ r. ⌜ r ≡ counts sum weight ⌝ }
 {
-    if 0xffff_ffff_ffff_ffff - sum < weight {
-        0
-    } else {
-        weight
-    }
+    let rest = 0xffff_ffff_ffff_ffff - sum;
+    if rest < weight { 0 } else { weight }
 }
 
 // Writes the weights, as far as they count, to sums from place `first` on: their sum.

@@ -4,3 +4,4 @@ pub mod begin;
 pub mod draw;
 pub mod drawing;
 pub mod finish;
+pub mod shuffle;

@@ -33,7 +33,7 @@ shared-slice-read-sum c = search needs
 add-sum-2 : tie.Need-add-sum-2 Inv-loop μ-loop
 add-sum-2 c =
     let l = c .before .before in
-    record { fits = adding-fits _ _ _ _ (l .before .pre .0) (c .before .loop-test .taken) (l .loop .inv) (l .before .pre .1) }
+    record { fits = adding-fits _ _ _ _ (l .before .pre .0) (omega (arith, c .before .loop-test .taken)) (l .loop .inv) (l .before .pre .1) }
 
 -- src/levels.rt:22:9
 add-i : tie.Need-add-i Inv-loop μ-loop
@@ -47,11 +47,11 @@ loop-less c = search needs
 loop-again : tie.Need-loop-again Inv-loop μ-loop
 loop-again c =
     let l = c .before .before in
-    adding-next _ _ _ _ (l .before .pre .0) (c .before .loop-test .taken) (l .loop .inv)
+    adding-next _ _ _ _ (l .before .pre .0) (omega (arith, c .before .loop-test .taken)) (l .loop .inv)
 
 -- src/levels.rt:13:1
 returns : tie.Need-returns Inv-loop μ-loop
-returns c = adding-all _ _ _ _ (c .loop-test .left) (c .before .loop .inv)
+returns c = adding-all _ _ _ _ (omega (arith, c .loop-test .left)) (c .before .loop .inv)
 
 pub block-sum-spec : {M : Type 1} → statement M
 block-sum-spec =

@@ -7,8 +7,8 @@ use Rattle.weighted_shuffle.proofs.begin.counts.Statement.{statement}
 use Rattle.weighted_shuffle.proofs.begin.counts.Tie as tie
 
 -- src/begin.rt:40:8
-sub-if1 : tie.Need-sub-if1
-sub-if1 c = search needs
+sub-rest : tie.Need-sub-rest
+sub-rest c = search needs
 
 -- src/begin.rt:37:1
 returns : tie.Need-returns
@@ -19,4 +19,4 @@ returns-2 : tie.Need-returns-2
 returns-2 c = rw (lt-leb (2 ^ 64) (c .before .args .sum + c .before .args .weight) (omega (arith, c .if1 .left, c .before .fits .sum .fits)))
 
 pub counts-spec : {M : Type 1} → statement M
-counts-spec = tie.close (tie.spec sub-if1 returns returns-2)
+counts-spec = tie.close (tie.spec sub-rest returns returns-2)

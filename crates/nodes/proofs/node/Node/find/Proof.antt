@@ -30,7 +30,7 @@ element-copy-out-weight c = search needs
 returns : tie.Need-returns Inv-loop μ-loop
 returns c =
     let sixteen : length (c .before .before .before .before .args .t1 .sums) ≡ 16 = search needs in
-    looking-found (c .before .before .before .loop .inv) (omega (arith, sixteen, c .before .before .loop-test .taken)) (c .if1 .taken)
+    looking-found (c .before .before .before .loop .inv) (omega (arith, sixteen, c .before .before .loop-test .taken)) (omega (arith, c .if1 .taken))
 
 -- src/node.rt:54:13
 add-offset : tie.Need-add-offset Inv-loop μ-loop

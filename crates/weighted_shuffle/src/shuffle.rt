@@ -1,0 +1,44 @@
+// The whole order of a list of weights.
+use crate::answers::ShuffleAnswer;
+use crate::begin;
+use crate::draw;
+use crate::finish;
+use nodes::exchange;
+use nodes::node::Node;
+ghost use mathlib.Core.Path.{_≡_};
+ghost use lib.ListN.{length, drop};
+ghost use Rattle.words.specs.Outcome.{bufferAfter};
+ghost use Rattle.tree.specs.Sizes.{sizes};
+ghost use Rattle.weighted_shuffle.specs.Calls.{shuffled, nodesAfter};
+ghost use Rattle.weighted_shuffle.specs.Answers.{shuffleAnswer};
+
+// The order, written to the front of `order`. The tree stands in the first nodes while the positions are drawn: what they held is
+// kept beside it, and put back where the call is refused.
+pub fn shuffle(
+    weights: &[u64],
+    list: &[u64],
+    cursor: usize,
+    order: &mut [u64],
+    nodes: &mut [Node],
+) -> ShuffleAnswer
+    ensures { λ r. ⌜ r ≡ shuffleAnswer (drop cursor (now (list .entry))) (shuffled (now (weights .entry)) (length (now (order .entry))) (length (now (nodes .entry))) (drop cursor (now (list .entry)))) ⌝ }
+    ensures { λ _. ⌜ now (order .exit) ≡ bufferAfter (shuffled (now (weights .entry)) (length (now (order .entry))) (length (now (nodes .entry))) (drop cursor (now (list .entry)))) (λ ps. ps) (now (order .entry)) ⌝ }
+    ensures { λ _. ⌜ now (nodes .exit) ≡ nodesAfter (shuffled (now (weights .entry)) (length (now (order .entry))) (length (now (nodes .entry))) (drop cursor (now (list .entry)))) (sizes (length (now (weights .entry))) .«tree_size») (now (nodes .entry)) ⌝ }
+{
+    let mut drawn = [0u64; 4096];
+    let mut sums = [0u64; 4368];
+    let begun = begin::begin(
+        weights,
+        list,
+        cursor,
+        order.len(),
+        nodes.len(),
+        &mut drawn,
+        &mut sums,
+    );
+    exchange::exchange(nodes, &mut sums, begun.size);
+    let done = draw::draw_all(nodes, list, &mut drawn, begun);
+    let ended = finish::finish(list, cursor, order, &mut drawn, done);
+    exchange::exchange(nodes, &mut sums, ended.back);
+    ended.answer
+}
