@@ -5,7 +5,7 @@
 --     calls-both-with  the same where two slices are lent at once, each for a lifetime of its own
 --     seen-twice       a `&[T]` of the caller that goes to a callee at its own lifetime. X is then the token with what the slice owns, and X′ the token: a contract does not give back what a `&[T]` owns, so a copy is kept
 --     calls-shown      the callee takes a `&[T]`: the slice comes back as it was
--- It says nothing of the crate, and can be copied as it stands, with `Again.antt`.
+
 -- Assumes `Given`, and that the table of calls is monotone under a frame.
 use mathlib.Core.Path.{_≡_}
 use Prim.Native.Nat.{ℕ}

@@ -1,5 +1,5 @@
 -- Laws of a node by value: where a value falls, and the exchange of its sums.
-use Prim.Native.Nat.{ℕ, suc, _+_, _-_, _*_, _≤_, _<_}
+use Prim.Native.Nat.{ℕ, suc, _+_, _-_, _≤_, _<_}
 use mathlib.Core.Path.{_≡_, refl, sym, ap, _∙_}
 use mathlib.Core.Bool.{Bool, true, false, cond}
 use mathlib.Core.List.{List, [], _∷_, _++_}
@@ -7,7 +7,7 @@ use native.Mathlib.Numerals.{add-one}
 use native.Mathlib.Omega.{arith}
 use lib.Dec.{ltb}
 use lib.ListN.{length, getD, set, take, drop, length-drop, length-set, take-append-drop, List·getD-eq-default}
-use lib.Seq.{length-take-le, take-all, drop-drop, drop-set-add, take-set-le, getD-drop, getD-take}
+use lib.Seq.{length-take-le, drop-drop, drop-set-add, take-set-le, getD-drop, getD-take}
 use Rattle.laws.specs.Sums.{total, runningSums}
 use Rattle.laws.proofs.Sums.{total-take-suc, total-take-mono, length-running, running-at}
 use Rattle.laws.proofs.Buffers.{Stored, stored-none, stored-next, stored-ahead, stored-all, stored-whole}

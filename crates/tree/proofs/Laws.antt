@@ -1,7 +1,7 @@
 -- The tree of up to 4,096 weights: the search equals the plain definition, taking out a weight gives the tree of the weights without
 -- it, in whatever order, and without weights every sum is 0.
 use Prim.Native.Nat.{ℕ, zero, suc, _+_, _-_, _*_, _^_, _≤_, _<_}
-use mathlib.Core.Path.{_≡_, refl, sym, ap, ap₂, _∙_}
+use mathlib.Core.Path.{_≡_, refl, sym, ap, _∙_}
 use mathlib.Core.Logic.{_≢_}
 use mathlib.Core.List.{List, [], _++_, append-nil}
 use native.Mathlib.Nat.{sub-self}
@@ -22,7 +22,7 @@ use Rattle.tree.specs.Levels.{levels, padded, sumsOf, treeOf}
 use Rattle.tree.proofs.BlockLaws.{total-zeros}
 use Rattle.tree.proofs.CutLaws.{cut-zero}
 use Rattle.tree.proofs.LevelLaws.{levels-long, levels-none, Taken, taken}
-use Rattle.tree.proofs.SearchLaws.{Searched, searched, deep-few}
+use Rattle.tree.proofs.SearchLaws.{searched, deep-few}
 use Rattle.tree.proofs.SizeLaws.{shape}
 
 pub size-small : (n : ℕ) → n ≤ 4096 → treeSize n ≤ 273

@@ -1,12 +1,11 @@
 -- Laws of the sizes: the closed form, for up to 4,096 weights.
 use Prim.Native.Nat.{ℕ, zero, suc, _+_, _-_, _*_, _^_, _≤_, _<_}
-use mathlib.Core.Path.{_≡_, refl, sym, ap, ap₂, _∙_}
+use mathlib.Core.Path.{_≡_, refl, sym, ap, _∙_}
 use mathlib.Core.Logic.{⊎-elim}
-use native.Mathlib.Nat.{le-refl}
 use native.Mathlib.Omega.{arith}
 use borrow.Author.Tests.{lt-ltb, le-ltb, le-leb, lt-leb}
 use Rattle.tree.specs.declared.sizes.Sizes.{Sizes}
-use Rattle.tree.specs.Sizes.{rows, sizesFrom, sizes, above, deep, numNodes, treeSize}
+use Rattle.tree.specs.Sizes.{rows, sizesFrom, sizes, deep, numNodes, treeSize}
 use Rattle.tree.proofs.BlockLaws.{split}
 
 -- down, or here
@@ -97,3 +96,9 @@ shape n h = ⊎-elim more (λ (l : n ≤ 16). record {
         steps-two s l r =
             let e : s ≡ suc (suc (s - 2)) = omega arith in
             ap (λ (m : ℕ). sizesFrom m 0 1 n) e ∙ sizes-on (suc (s - 2)) 0 1 n (omega arith) ∙ sizes-on (s - 2) 1 16 n (omega arith)
+
+-- "For 0, 16, 17 and 4,096 weights (`num_nodes`, tree size) is (1, 0), (1, 1), (17, 3), (273, 273)"
+pub sizes-table : (sizes 0 ≡ record { «num_nodes» = 1; «tree_size» = 0 }) × (sizes 16 ≡ record { «num_nodes» = 1; «tree_size» = 1 })
+    × (sizes 17 ≡ record { «num_nodes» = 17; «tree_size» = 3 }) × (sizes 4096 ≡ record { «num_nodes» = 273; «tree_size» = 273 })
+unfolding deep
+sizes-table = (refl, refl, refl, shape 4096 (omega arith) .is)

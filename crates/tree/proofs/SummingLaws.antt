@@ -4,7 +4,7 @@ use mathlib.Core.Path.{_≡_, refl, sym, ap, ap₂, _∙_}
 use mathlib.Core.List.{List, _++_, append-assoc}
 use native.Mathlib.Omega.{arith}
 use lib.ListN.{length, getD, set, take, drop, replicate, length-take, length-drop, length-set, length-append, length-replicate, take-append-drop, replicate-append-replicate}
-use lib.Seq.{take-all, take-at, drop-at, take-append-le, drop-append-le, drop-append-add, drop-drop, drop-set-add, drop-set-lt, take-set-le}
+use lib.Seq.{take-all, take-at, drop-at, drop-append-add, drop-drop, drop-set-add, drop-set-lt, take-set-le}
 use Rattle.laws.specs.Sums.{total}
 use Rattle.laws.proofs.Sums.{total-at}
 use Rattle.laws.proofs.Buffers.{Stored, stored-none, stored-next, stored-all}
@@ -114,11 +114,18 @@ module _ (d c : ℕ) (xs R : List ℕ) (long : length xs ≡ 16 * c) (few : c �
   A-long : length A ≡ 16 * above d
   A-long = length-replicate (16 * above d) 0
 
+  long-is : 16 * above (suc d) ≡ 16 * above d + (c + z)
+  long-is = omega (arith, above-suc d)
+
+  zeros-are : replicate (16 * above (suc d)) 0 ≡ A ++ (replicate c 0 ++ replicate z 0)
+  zeros-are =
+      ap (λ (n : ℕ). replicate n 0) long-is
+      ∙ sym (replicate-append-replicate (16 * above d) (c + z) 0)
+      ∙ ap (λ (us : List ℕ). A ++ us) (sym (replicate-append-replicate c z 0))
+
   F-is : F ≡ A ++ (replicate c 0 ++ (replicate z 0 ++ (xs ++ R)))
   F-is =
-      let e : 16 * above (suc d) ≡ 16 * above d + (c + z) = omega (arith, above-suc d) in
-      ap (λ (us : List ℕ). us ++ (xs ++ R))
-      (ap (λ (n : ℕ). replicate n 0) e ∙ sym (replicate-append-replicate (16 * above d) (c + z) 0) ∙ ap (λ (us : List ℕ). A ++ us) (sym (replicate-append-replicate c z 0)))
+      ap (λ (us : List ℕ). us ++ (xs ++ R)) zeros-are
       ∙ append-assoc A (replicate c 0 ++ replicate z 0) (xs ++ R)
       ∙ ap (λ (us : List ℕ). A ++ us) (append-assoc (replicate c 0) (replicate z 0) (xs ++ R))
 

@@ -1,5 +1,5 @@
 -- How many nodes a tree has.
-use Prim.Native.Nat.{ℕ, zero, suc, _+_, _*_, _/_, _^_}
+use Prim.Native.Nat.{ℕ, zero, suc, _+_, _*_, _/_}
 use mathlib.Core.Bool.{cond}
 use lib.Dec.{leb, ltb}
 use Rattle.tree.specs.declared.sizes.Sizes.{Sizes}

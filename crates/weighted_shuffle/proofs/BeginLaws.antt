@@ -1,5 +1,5 @@
 -- Laws of the beginning of a shuffle: the weights as far as they count, and the list of the zeros.
-use Prim.Native.Nat.{ℕ, zero, suc, _+_, _-_, _*_, _^_, _≤_, _<_}
+use Prim.Native.Nat.{ℕ, zero, suc, _+_, _-_, _^_, _≤_, _<_}
 use mathlib.Core.Path.{_≡_, refl, sym, ap, ap₂, _∙_}
 use mathlib.Core.Bool.{Bool, true, false, cond}
 use mathlib.Core.Logic.{_⊎_, ⊎-elim}
@@ -7,10 +7,10 @@ use mathlib.Core.List.{List, [], _∷_, _++_, append-nil}
 use native.Mathlib.Nat.{zero-add, add-assoc}
 use native.Mathlib.Numerals.{add-one}
 use native.Mathlib.Omega.{arith}
-use lib.Dec.{eqb, leb, ltb}
-use lib.ListN.{length, getD, set, take, drop, replicate, length-append, length-drop, length-set, take-append-drop, List·getD-append}
+use lib.Dec.{eqb, leb}
+use lib.ListN.{length, getD, set, take, drop, length-append, length-drop, length-set, take-append-drop, List·getD-append}
 use lib.Seq.{take-all, length-take-le, getD-take, drop-drop, drop-set-add, take-set-le, getD-append-seam, getD-set-same, getD-set-other, getD-drop}
-use borrow.Author.Tests.{leb-true, leb-false, eq-eqb, ne-eqb}
+use borrow.Author.Tests.{leb-false, eq-eqb, ne-eqb}
 use Rattle.laws.specs.Sums.{total}
 use Rattle.laws.specs.Counts.{consIf}
 use Rattle.laws.proofs.Sums.{total-take-suc, total-take-le}

@@ -1,5 +1,5 @@
 -- Laws of a shuffle that has begun: turned down by its input, or with the tree of all weights.
-use Prim.Native.Nat.{ℕ, _≤_, _<_}
+use Prim.Native.Nat.{ℕ, _≤_}
 use mathlib.Core.Path.{_≡_, refl, sym, ap, _∙_}
 use mathlib.Core.Bool.{Bool, true, false, cond}
 use mathlib.Core.List.{List, [], _∷_}
@@ -7,11 +7,10 @@ use native.Mathlib.Omega.{arith}
 use lib.Dec.{ltb}
 use lib.ListN.{length}
 use borrow.Author.Tests.{ltb-false, ne-eqb}
-use Rattle.refusals.specs.declared.Refusal.{Refusal}
 use Rattle.refusals.specs.declared.Refusal.the-variants.{None, Number}
 use Rattle.refusals.specs.Refusals.{lowest, longList, shortBuffer}
-use Rattle.refusals.proofs.CheckLaws.{Passed, passed}
-use Rattle.words.specs.Outcome.{Outcome, refused, accepted}
+use Rattle.refusals.proofs.CheckLaws.{passed}
+use Rattle.words.specs.Outcome.{refused}
 use Rattle.words.proofs.Outcomes.{goes-on, turned-down}
 use Rattle.tree.specs.declared.sizes.Sizes.{Sizes}
 use Rattle.tree.specs.Sizes.{sizes, deep, treeSize}
@@ -19,7 +18,7 @@ use Rattle.tree.proofs.SizeLaws.{shape}
 use Rattle.weighted_shuffle.specs.declared.drawing.Drawing.{Drawing}
 use Rattle.weighted_shuffle.specs.Order.{whole, order}
 use Rattle.weighted_shuffle.specs.Calls.{shuffleChecks, shuffled}
-use Rattle.weighted_shuffle.specs.Progress.{Progress, Built, Begun}
+use Rattle.weighted_shuffle.specs.Progress.{Built, Begun}
 
 -- a call that is not turned down
 pub record Fits (n room nodes : ℕ) : Type 0 where

@@ -1,11 +1,10 @@
 -- Laws of building: the sums of the tree of all weights, and the state before the first position.
-use Prim.Native.Nat.{ℕ, zero, suc, _+_, _-_, _*_, _^_, _≤_, _<_}
+use Prim.Native.Nat.{ℕ, zero, suc, _+_, _-_, _*_, _≤_, _<_}
 use mathlib.Core.Path.{_≡_, refl, sym, ap, ap₂, _∙_}
-use mathlib.Core.Bool.{false}
-use mathlib.Core.List.{List, [], _∷_, _++_}
+use mathlib.Core.List.{List, [], _++_}
 use native.Mathlib.Omega.{arith}
-use lib.ListN.{length, take, drop, replicate, length-append, length-take, length-drop, length-replicate, replicate-append-replicate}
-use lib.Seq.{take-at, drop-at, take-append-add, take-take}
+use lib.ListN.{length, take, drop, replicate, length-append, length-replicate, replicate-append-replicate}
+use lib.Seq.{take-at, drop-at, take-append-add}
 use Rattle.laws.specs.Sums.{total}
 use Rattle.words.specs.Outcome.{Outcome, refused, accepted, giving}
 use Rattle.words.specs.Stream.{stream}

@@ -1,15 +1,13 @@
 -- Laws of the end of a shuffle, by whether the zeros are drawn.
 use Prim.Native.Nat.{ℕ, _-_, _≤_}
-use mathlib.Core.Path.{_≡_, refl, sym, ap, _∙_}
-use mathlib.Core.Bool.{cond}
+use mathlib.Core.Path.{_≡_, refl, sym, ap}
 use mathlib.Core.List.{List, _++_}
 use native.Mathlib.Omega.{arith}
-use lib.ListN.{length, take, drop}
+use lib.ListN.{length, drop}
 use borrow.Author.Tests.{eq-eqb, ne-eqb}
 use Rattle.refusals.specs.Refusals.{noWordLeft}
 use Rattle.words.specs.Outcome.{Outcome, refused, accepted, bufferAfter}
 use Rattle.words.specs.Stream.{stream}
-use Rattle.weighted_shuffle.specs.declared.answers.ShuffleAnswer.{ShuffleAnswer}
 use Rattle.weighted_shuffle.specs.declared.answers.ShuffleAnswer.the-variants.{Accepted, Refused}
 use Rattle.weighted_shuffle.specs.declared.drawing.Drawing.{Drawing}
 use Rattle.weighted_shuffle.specs.declared.finish.Zeros.{Zeros}

@@ -1,4 +1,4 @@
--- A local `[0u64; n]` that is lent as a slice for a lifetime of its own, and taken back, each as one step of the calculus; and a constant that MIR writes as `intBig`, as a large array's length. It says nothing of the crate.
+-- A local `[0u64; n]` that is lent as a slice for a lifetime of its own, and taken back, each as one step of the calculus; and a constant that MIR writes as `intBig`, as a large array's length.
 -- Assumes `Given`.
 use mathlib.Core.Path.{_≡_, refl, sym, subst}
 use Prim.Native.Nat.{ℕ, zero, suc}

@@ -1,11 +1,11 @@
 -- Laws of the order: what is left after a step, and how many positions there are.
-use Prim.Native.Nat.{ℕ, zero, suc, _+_, _-_, _^_, _≤_, _<_}
-use mathlib.Core.Path.{_≡_, refl, sym, ap, _∙_}
+use Prim.Native.Nat.{ℕ, zero, suc, _-_, _≤_, _<_}
+use mathlib.Core.Path.{_≡_, refl, ap}
 use mathlib.Core.Bool.{Bool, true, false, cond}
 use mathlib.Core.List.{List, [], _∷_}
 use native.Mathlib.Omega.{arith}
 use lib.Dec.{eqb, ltb}
-use lib.ListN.{length, getD, set, take}
+use lib.ListN.{length, getD, set}
 use borrow.Author.Tests.{eqb-true, eq-eqb, ne-eqb, lt-ltb, le-ltb}
 use Rattle.laws.specs.Sums.{total}
 use Rattle.laws.specs.Counts.{consIf}
@@ -17,10 +17,10 @@ use Rattle.draws.specs.declared.below.Below.{Below}
 use Rattle.draws.specs.declared.below.Below.the-variants.{Value, NoWord}
 use Rattle.draws.specs.Answers.{belowSays}
 use Rattle.draws.specs.Below.{below}
-use Rattle.draws.specs.Weighted.{chosen, placeOf, weighted}
+use Rattle.draws.specs.Weighted.{chosen, weighted}
 use Rattle.draws.proofs.BelowLaws.{below-no-longer}
 use Rattle.draws.proofs.WeightedLaws.{weighted-no-longer}
-use Rattle.weighted_shuffle.specs.Order.{Left, Step, zerosFrom, takeWeight, takeZero, step, steps}
+use Rattle.weighted_shuffle.specs.Order.{Left, zerosFrom, takeWeight, takeZero, step, steps}
 
 -- what an answer of `draw_below` tells
 pub drawn-value : {r : Below} {o : Outcome ℕ} {left : List ℕ} {v : ℕ} → r ≡ Value v → belowSays r left ≡ o → accepted v left ≡ o
@@ -84,7 +84,7 @@ steps-zeros (suc k) ws zs words h = rw (no-weight ws zs words h, no-weight [] zs
         next (giving (λ i. takeZero (record { weights = ws; zeros = zs }) i) o) (λ s left. giving (λ ps. s .position ∷ ps) (steps k (s .rest) left))
         ≡ next (giving (λ i. takeZero (record { weights = []; zeros = zs }) i) o) (λ s left. giving (λ ps. s .position ∷ ps) (steps k (s .rest) left))
     go (refused n) ih = refl
-    go (accepted i left) ih = ap (giving (λ ps. getD zs i 0 ∷ ps)) (ih (take (length zs - 1) (set zs i (getD zs (length zs - 1) 0))) left)
+    go (accepted i left) ih = ap (giving (λ ps. getD zs i 0 ∷ ps)) (ih (takeZero (record { weights = ws; zeros = zs }) i .rest .zeros) left)
 
 -- no more words are left than there were
 step-no-longer : (left : Left) (ws : List ℕ) → NoLonger ws (step left ws)

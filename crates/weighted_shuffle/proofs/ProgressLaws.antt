@@ -1,7 +1,7 @@
 -- Laws of a shuffle's state: a value is drawn, a position is taken.
-use Prim.Native.Nat.{ℕ, zero, suc, _+_, _-_, _%_, _≤_, _<_}
+use Prim.Native.Nat.{ℕ, suc, _+_, _-_, _%_, _≤_, _<_}
 use mathlib.Core.Path.{_≡_, refl, sym, ap, ap₂, _∙_}
-use mathlib.Core.Logic.{_⊎_, inl, inr, ⊎-elim}
+use mathlib.Core.Logic.{_⊎_, ⊎-elim}
 use mathlib.Core.Bool.{Bool, true, false, cond}
 use mathlib.Core.List.{List, [], _∷_, _++_}
 use native.Mathlib.Numerals.{add-one}
@@ -21,7 +21,6 @@ use Rattle.draws.proofs.WeightedLaws.{chosen-is, remainder-lt}
 use Rattle.nodes.specs.declared.node.Found.{Found}
 use Rattle.tree.proofs.BlockLaws.{split, total-less}
 use Rattle.weighted_shuffle.specs.declared.drawing.Drawing.{Drawing}
-use Rattle.weighted_shuffle.specs.Answers.{valueSays}
 use Rattle.weighted_shuffle.specs.Order.{Left, takeWeight, steps, zerosOf}
 use Rattle.weighted_shuffle.specs.Progress.{ahead, FromEnd, fromEnd, Progress, Valued, without, ending}
 use Rattle.weighted_shuffle.proofs.OrderLaws.{zeros-few, zeros-all, steps-zeros, zeros-more, step-drawn, step-refused}

@@ -1,11 +1,11 @@
 -- Laws of a whole shuffle: from its beginning, through the draws, to what its answer and its buffers hold.
-use Prim.Native.Nat.{ℕ, _+_, _*_, _≤_, _<_}
-use mathlib.Core.Path.{_≡_, refl, sym, ap, ap₂, subst, _∙_}
+use Prim.Native.Nat.{ℕ, _+_, _*_, _≤_}
+use mathlib.Core.Path.{_≡_, refl, sym, ap, ap₂, _∙_}
 use mathlib.Core.Bool.{Bool, true, false, cond}
 use mathlib.Core.List.{List, _++_}
 use native.Mathlib.Omega.{arith}
 use lib.Dec.{eqb}
-use lib.ListN.{length, take, drop, replicate, length-append, length-take, length-drop, take-append-drop}
+use lib.ListN.{length, take, drop, replicate, length-append, take-append-drop}
 use lib.Seq.{drop-at, length-take-le}
 use borrow.Author.Tests.{eqb-true}
 use Rattle.laws.specs.Sums.{total}
@@ -18,7 +18,7 @@ use Rattle.words.specs.Stream.{stream}
 use Rattle.nodes.specs.declared.node.Node.{Node}
 use Rattle.nodes.specs.Node.{zeroNode}
 use Rattle.nodes.specs.Run.{cut, flat, Full}
-use Rattle.nodes.proofs.RunLaws.{length-flat, cut-flat}
+use Rattle.nodes.proofs.RunLaws.{cut-flat}
 use Rattle.tree.specs.Sizes.{sizes, treeSize}
 use Rattle.tree.specs.Levels.{sumsOf, treeOf}
 use Rattle.tree.proofs.CutLaws.{cut-front}

@@ -1,30 +1,28 @@
 -- Every order is whole: over any function, the positions that are left sum to what the steps still to come give.
 use Prim.Native.Nat.{ℕ, zero, suc, _+_, _-_, _≤_, _<_}
 use mathlib.Core.Path.{_≡_, refl, sym, ap, subst, _∙_}
-use mathlib.Core.Logic.{_⊎_, inl, inr, ⊎-elim}
+use mathlib.Core.Logic.{_⊎_, ⊎-elim}
 use mathlib.Core.Bool.{Bool, true, false, cond}
 use mathlib.Core.List.{List, [], _∷_, _++_}
 use native.Mathlib.Nat.{zero-add}
 use native.Mathlib.Omega.{arith}
-use lib.Dec.{eqb, ltb}
+use lib.Dec.{eqb}
 use lib.ListN.{length, getD, set, take, length-append, length-set}
 use lib.Seq.{take-suc, take-all, getD-set-same, getD-set-other, getD-append-seam, append-snoc}
-use borrow.Author.Tests.{ltb-true, ltb-false, eqb-true, eqb-false, eq-eqb, ne-eqb, lt-ltb, le-ltb}
+use borrow.Author.Tests.{eqb-true, eqb-false, eq-eqb, ne-eqb, lt-ltb, le-ltb}
 use Rattle.laws.specs.Sums.{total, sumOf}
 use Rattle.laws.specs.Counts.{consIf, count}
-use Rattle.laws.specs.Orders.{Permutation}
-use Rattle.laws.proofs.Sums.{total-at}
 use Rattle.laws.proofs.Lists.{sum-append}
 use Rattle.laws.proofs.Orders.{sum-set}
-use Rattle.words.specs.Outcome.{Outcome, refused, accepted, next, giving}
-use Rattle.words.proofs.Outcomes.{Went, went}
+use Rattle.words.specs.Outcome.{accepted, giving}
+use Rattle.words.proofs.Outcomes.{went}
 use Rattle.draws.specs.declared.weighted.Place.{Place}
 use Rattle.draws.specs.Below.{below}
 use Rattle.draws.specs.Weighted.{weighted, Placed}
 use Rattle.draws.proofs.BelowLaws.{drawn-lt}
 use Rattle.draws.proofs.WeightedLaws.{placed}
-use Rattle.weighted_shuffle.specs.Order.{Left, Step, counted, zerosFrom, zerosOf, takeWeight, takeZero, step, steps, whole, order}
-use Rattle.weighted_shuffle.specs.Laws.{StepsByWeight, positionsFrom, AllZero, ZerosLast, Whole, OrdersWhole}
+use Rattle.weighted_shuffle.specs.Order.{Left, Step, counted, zerosFrom, takeWeight, takeZero, step, steps, whole}
+use Rattle.weighted_shuffle.specs.Laws.{StepsByWeight, positionsFrom, AllZero, ZerosLast, OrdersWhole}
 use Rattle.tree.proofs.BlockLaws.{split}
 use Rattle.weighted_shuffle.proofs.BeginLaws.{length-counted}
 

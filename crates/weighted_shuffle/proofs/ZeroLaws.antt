@@ -1,7 +1,6 @@
 -- Laws of drawing the zeros: they stand at the end of n places, and the one drawn and the last of them change places.
 use Prim.Native.Nat.{ℕ, zero, suc, _+_, _-_, _≤_, _<_}
 use mathlib.Core.Path.{_≡_, refl, sym, ap, _∙_}
-use mathlib.Core.Logic.{_⊎_, inl, inr, ⊎-elim}
 use mathlib.Core.Bool.{Bool, true, false}
 use mathlib.Core.List.{List, [], _∷_, _++_, append-nil}
 use native.Mathlib.Numerals.{add-one}
@@ -10,10 +9,10 @@ use lib.Dec.{eqb}
 use lib.ListN.{length, getD, set, take, length-set, length-take}
 use lib.Seq.{take-suc-set, take-set-le, getD-take, getD-set-same, getD-set-other, append-snoc}
 use borrow.Author.Tests.{eqb-true, eqb-false}
-use Rattle.words.specs.Outcome.{Outcome, refused, accepted, giving}
+use Rattle.words.specs.Outcome.{refused, accepted, giving}
 use Rattle.draws.specs.Below.{below}
 use Rattle.draws.proofs.BelowLaws.{drawn-lt}
-use Rattle.weighted_shuffle.specs.Order.{Left, takeZero, steps}
+use Rattle.weighted_shuffle.specs.Order.{takeZero, steps}
 use Rattle.weighted_shuffle.specs.Progress.{FromEnd, fromEnd, zerosDrawn}
 use Rattle.weighted_shuffle.proofs.ProgressLaws.{giving-twice, giving-same}
 

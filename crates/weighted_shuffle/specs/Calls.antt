@@ -1,7 +1,6 @@
 -- What a call gives: the lowest refusal from its input, else the order.
 use Prim.Native.Nat.{ℕ}
 use mathlib.Core.List.{List, [], _∷_, _++_}
-use lib.Dec.{ltb}
 use lib.ListN.{length, drop, replicate}
 use Rattle.refusals.specs.Refusals.{Check, lowest, longList, shortBuffer}
 use Rattle.words.specs.Outcome.{Outcome, refused, accepted, unless}

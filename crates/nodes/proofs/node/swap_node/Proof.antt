@@ -5,9 +5,7 @@ use mathlib.Core.List.{List}
 use lib.ListN.{length}
 use Rattle.nodes.proofs.node.swap_node.Statement.{statement}
 use Rattle.nodes.proofs.node.swap_node.Tie as tie
-use Rattle.nodes.proofs.node.swap_node.Reads as reads
 use Rattle.nodes.proofs.NodeLaws.{Swapping, swapping-none, swapping-next, swapping-node, swapping-sums}
-use Rattle.nodes.proofs.node.Node.with_sum.Reads as with-sum-reads
 
 abbrev Inv-loop : tie.InvT-loop
 Inv-loop sums₀ i first held₀ j₀ sums held j = Swapping first sums₀ (held₀ .sums) sums (held .sums) j

@@ -1,6 +1,6 @@
 -- `nodes::node_at` meets its contract: a walk of its MIR, by hand. The place of `t[i]` is 128 * i past the slice's pointer; the slice is looked into, the element is taken out of the row, read whole, and put back.
 -- Assumes nothing.
-use mathlib.Core.Path.{_≡_, refl, sym, subst}
+use mathlib.Core.Path.{refl, sym}
 use Prim.Native.Nat.{ℕ, _<_, _^_, _*_}
 use native.Mathlib.Omega.{arith}
 use mathlib.Core.List.{List, [], _∷_}

@@ -1,6 +1,6 @@
 -- `nodes::put_node` meets its contract: a walk of its MIR, by hand. The place of `t[i]` is 128 * i past the slice's pointer; the borrow is opened, the element is taken out of the row and stored to whole, and the borrow is closed at the list with v at i.
 -- Assumes nothing.
-use mathlib.Core.Path.{_≡_, refl, sym, ap, subst}
+use mathlib.Core.Path.{refl, sym, ap, subst}
 use Prim.Native.Nat.{ℕ, _<_, _^_, _*_}
 use native.Mathlib.Omega.{arith}
 use mathlib.Core.List.{List, [], _∷_}

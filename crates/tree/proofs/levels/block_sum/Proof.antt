@@ -1,8 +1,7 @@
 -- `tree::levels::block_sum` meets its contract.
 use borrow.Author.Needs.{needs}
-use Prim.Native.Nat.{ℕ, _+_, _-_, _≤_, _<_}
+use Prim.Native.Nat.{_-_}
 use native.Mathlib.Omega.{arith}
-use denote.Ref.{now}
 use Rattle.tree.proofs.BlockLaws.{Adding, adding-none, adding-next, adding-fits, adding-all}
 use Rattle.tree.proofs.levels.block_sum.Statement.{statement}
 use Rattle.tree.proofs.levels.block_sum.Tie as tie

@@ -1,6 +1,6 @@
 -- `tree::levels::sum_blocks` meets its contract.
 use borrow.Author.Needs.{needs}
-use Prim.Native.Nat.{ℕ, _+_, _-_, _*_, _≤_, _<_}
+use Prim.Native.Nat.{_-_}
 use native.Mathlib.Omega.{arith}
 use Rattle.tree.proofs.SummingLaws.{Blocked, blocked-none, blocked-next, blocked-fits, blocked-all}
 use Rattle.tree.proofs.levels.sum_blocks.Statement.{statement}

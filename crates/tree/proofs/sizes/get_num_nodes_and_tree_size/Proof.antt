@@ -1,6 +1,6 @@
 -- `tree::sizes::get_num_nodes_and_tree_size` meets its contract.
 use borrow.Author.Needs.{needs}
-use Prim.Native.Nat.{ℕ, _-_, _≤_, _<_, _+_, _*_}
+use Prim.Native.Nat.{ℕ, _-_}
 use mathlib.Core.Path.{_≡_}
 use native.Mathlib.Omega.{arith}
 use Rattle.tree.specs.Sizes.{rows as rowsOf}

@@ -1,6 +1,5 @@
 -- `weighted_shuffle::begin::build` meets its contract.
 use borrow.Author.Needs.{needs}
-use Prim.Native.Nat.{_+_, _≤_}
 use mathlib.Core.Path.{refl}
 use native.Mathlib.Omega.{arith}
 use denote.Ref.{now}

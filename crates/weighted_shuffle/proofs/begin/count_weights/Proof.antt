@@ -1,7 +1,6 @@
 -- `weighted_shuffle::begin::count_weights` meets its contract.
 use borrow.Author.Needs.{needs}
-use Prim.Native.Nat.{_+_, _-_, _≤_, _<_}
-use native.Mathlib.Omega.{arith}
+use Prim.Native.Nat.{_-_}
 use lib.ListN.{length}
 use Rattle.weighted_shuffle.proofs.BeginLaws.{Counting, counting-none, counting-fits, counting-next, counting-sum, counting-all}
 use Rattle.weighted_shuffle.proofs.begin.count_weights.Statement.{statement}

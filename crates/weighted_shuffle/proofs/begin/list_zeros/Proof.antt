@@ -1,11 +1,10 @@
 -- `weighted_shuffle::begin::list_zeros` meets its contract.
 use borrow.Author.Needs.{needs}
-use Prim.Native.Nat.{_+_, _-_, _≤_, _<_}
-use native.Mathlib.Omega.{arith}
+use Prim.Native.Nat.{_+_, _-_}
 use mathlib.Core.Path.{_≡_}
 use mathlib.Core.Logic.{_⊎_, inl, inr}
 use denote.Ref.{now}
-use lib.ListN.{length, getD, set, take, drop}
+use lib.ListN.{getD, set, take, drop}
 use Rattle.weighted_shuffle.proofs.BeginLaws.{Listing, listing-none, listing-turn, listing-all}
 use Rattle.weighted_shuffle.proofs.begin.list_zeros.Statement.{statement}
 use Rattle.weighted_shuffle.proofs.begin.list_zeros.Tie as tie

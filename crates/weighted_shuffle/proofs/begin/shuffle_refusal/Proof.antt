@@ -1,12 +1,13 @@
 -- `weighted_shuffle::begin::shuffle_refusal` meets its contract.
 use borrow.Author.Needs.{needs}
+use native.Mathlib.Omega.{arith}
 use borrow.Author.Tests.{lt-ltb, le-ltb}
 use Rattle.weighted_shuffle.proofs.begin.shuffle_refusal.Statement.{statement}
 use Rattle.weighted_shuffle.proofs.begin.shuffle_refusal.Tie as tie
 
 -- src/begin.rt:24:9
 returns : tie.Need-returns
-returns c = rw (lt-ltb 4096 (c .before .args .n) (c .if1 .taken))
+returns c = rw (lt-ltb 4096 (c .before .args .n) (omega (arith, c .if1 .taken)))
 
 -- src/begin.rt:27:9
 returns-2 : tie.Need-returns-2

@@ -1,6 +1,6 @@
 -- `weighted_shuffle::drawing::draw_value` meets its contract.
 use borrow.Author.Needs.{needs}
-use Prim.Native.Nat.{ℕ, _<_}
+use Prim.Native.Nat.{ℕ}
 use mathlib.Core.Path.{_≡_, refl}
 use native.Mathlib.Omega.{arith}
 use Rattle.weighted_shuffle.proofs.OrderLaws.{drawn-value, drawn-none}

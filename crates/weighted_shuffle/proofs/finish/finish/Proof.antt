@@ -1,13 +1,13 @@
 -- `weighted_shuffle::finish::finish` meets its contract.
 use borrow.Author.Needs.{needs}
-use Prim.Native.Nat.{ℕ, _≤_, _<_}
-use mathlib.Core.Path.{_≡_, refl, sym, ap, _∙_}
+use Prim.Native.Nat.{ℕ}
+use mathlib.Core.Path.{_≡_, sym}
 use mathlib.Core.List.{List}
 use native.Mathlib.Omega.{arith}
 use denote.Ref.{now}
 use lib.ListN.{length, take}
 use lib.Seq.{length-take-le}
-use Rattle.words.specs.Outcome.{Outcome, refused, accepted}
+use Rattle.words.specs.Outcome.{Outcome, accepted}
 use Rattle.words.specs.Stream.{stream}
 use Rattle.weighted_shuffle.specs.declared.finish.Zeros.the-variants.{Drawn}
 use Rattle.weighted_shuffle.specs.Progress.{ending}

@@ -1,11 +1,10 @@
 use borrow.Author.Needs.{needs}
-use Prim.Native.Nat.{ℕ, _-_}
+use Prim.Native.Nat.{_-_}
 use mathlib.Core.Path.{_≡_}
 use native.Mathlib.Omega.{arith}
 use lib.ListN.{length}
 use Rattle.nodes.proofs.node.Node.find.Statement.{statement}
 use Rattle.nodes.proofs.node.Node.find.Tie as tie
-use Rattle.nodes.proofs.node.Node.find.Reads as reads
 use Rattle.nodes.proofs.NodeLaws.{Looking, looking-none, looking-next, looking-found, looking-all}
 
 abbrev Inv-loop : tie.InvT-loop
