@@ -1,9 +1,9 @@
 -- Laws of sums and running sums.
-use Prim.Native.Nat.{ℕ, zero, suc, _+_, _^_, _≤_, _<_}
+use Prim.Native.Nat.{ℕ, zero, suc, _+_, _-_, _^_, _≤_, _<_}
 use mathlib.Core.Path.{_≡_, refl, ap}
 use mathlib.Core.List.{List, [], _∷_, _++_}
 use native.Mathlib.Omega.{arith}
-use lib.ListN.{length, getD, take}
+use lib.ListN.{length, getD, set, take, drop, replicate}
 use Rattle.laws.specs.Sums.{total, runningFrom}
 
 -- the sum of two lists together
@@ -53,3 +53,19 @@ running-at b (x ∷ xs) (suc i) h = omega (arith, running-at (b + x) xs i (omega
 pub running-rises : (b : ℕ) (xs : List ℕ) (i j : ℕ) → i ≤ j → j < length xs → getD (runningFrom b xs) i 0 ≤ getD (runningFrom b xs) j 0
 running-rises b xs i j h l =
     omega (arith, running-at b xs i (omega arith), running-at b xs j l, total-take-mono xs (suc i) (suc j) (omega arith))
+
+-- a list in two parts
+pub total-cut : (n : ℕ) (xs : List ℕ) → total (take n xs) + total (drop n xs) ≡ total xs
+total-cut zero xs = omega arith
+total-cut (suc n) [] = refl
+total-cut (suc n) (x ∷ xs) = omega (arith, total-cut n xs)
+
+pub total-zeros : (n : ℕ) → total (replicate n 0) ≡ 0
+total-zeros zero = refl
+total-zeros (suc n) = omega (arith, total-zeros n)
+
+-- one number less w
+pub total-less : (xs : List ℕ) (a w : ℕ) → a < length xs → w ≤ getD xs a 0 → total (set xs a (getD xs a 0 - w)) ≡ total xs - w
+total-less [] a w h l = absurd (omega arith)
+total-less (x ∷ xs) zero w h l = omega arith
+total-less (x ∷ xs) (suc a) w h l = omega (arith, total-less xs a w (omega arith) l, total-at xs a)

@@ -3,6 +3,7 @@ pub mod CallLent
 pub mod While
 pub mod Cells
 pub mod Spread
+pub mod LocalArray
 pub mod InPlace
 pub mod Says
 pub mod NodeLaws

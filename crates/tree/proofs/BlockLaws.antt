@@ -1,42 +1,18 @@
 -- Laws of lists that are cut into blocks of sixteen.
 use Prim.Native.Nat.{ℕ, zero, suc, _+_, _-_, _*_, _/_, _^_, _≤_, _<_}
 use mathlib.Core.Path.{_≡_, refl, sym, ap, ap₂, _∙_}
-use mathlib.Core.Logic.{_⊎_, inl, inr, ⊎-elim}
-use mathlib.Core.Bool.{Bool, true, false}
+use mathlib.Core.Logic.{_⊎_, ⊎-elim}
 use mathlib.Core.List.{List, [], _∷_, _++_}
 use native.Mathlib.Numerals.{add-one}
 use native.Mathlib.Omega.{arith}
-use lib.Dec.{ltb}
 use lib.ListN.{length, getD, set, take, drop, replicate, length-take, length-drop}
 use lib.Seq.{take-all, take-add, drop-drop, take-set-lt, take-set-le, drop-set-lt, drop-set-add, getD-take, getD-drop, length-take-le, take-take, take-append-le, drop-append-le}
-use borrow.Author.Tests.{ltb-true, ltb-false}
 use Rattle.laws.specs.Sums.{total}
-use Rattle.laws.proofs.Sums.{total-append, total-at, total-take-suc, total-take-le}
+use Rattle.laws.proofs.Sums.{total-append, total-at, total-take-suc, total-take-le, total-cut, total-less}
+use Rattle.laws.proofs.Numbers.{split}
 use Rattle.draws.specs.Weighted.{chosen, remainder}
 use Rattle.draws.proofs.WeightedLaws.{Chosen, chosen-at, chosen-is, remainder-lt, value-back}
 use Rattle.tree.specs.Levels.{blocks}
-
-pub split : (a b : ℕ) → (a < b) ⊎ (b ≤ a)
-split a b = go (ltb a b) refl
-  where
-    go : (t : Bool) → ltb a b ≡ t → (a < b) ⊎ (b ≤ a)
-    go true e = inl (ltb-true a b e)
-    go false e = inr (ltb-false a b e)
-
-pub total-cut : (n : ℕ) (xs : List ℕ) → total (take n xs) + total (drop n xs) ≡ total xs
-total-cut zero xs = omega arith
-total-cut (suc n) [] = refl
-total-cut (suc n) (x ∷ xs) = omega (arith, total-cut n xs)
-
-pub total-zeros : (n : ℕ) → total (replicate n 0) ≡ 0
-total-zeros zero = refl
-total-zeros (suc n) = omega (arith, total-zeros n)
-
--- one number less w
-pub total-less : (xs : List ℕ) (a w : ℕ) → a < length xs → w ≤ getD xs a 0 → total (set xs a (getD xs a 0 - w)) ≡ total xs - w
-total-less [] a w h l = absurd (omega arith)
-total-less (x ∷ xs) zero w h l = omega arith
-total-less (x ∷ xs) (suc a) w h l = omega (arith, total-less xs a w (omega arith) l, total-at xs a)
 
 pub length-blocks : (k : ℕ) (xs : List ℕ) → length (blocks k xs) ≡ k
 length-blocks zero xs = refl

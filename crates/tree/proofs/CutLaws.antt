@@ -6,13 +6,13 @@ use mathlib.Core.List.{List, _∷_, _++_}
 use native.Mathlib.Omega.{arith}
 use lib.ListN.{length, getD, set, take, drop, replicate, length-drop, replicate-append-replicate, List·getD-append}
 use lib.Seq.{drop-drop, take-set-lt, take-set-le, drop-set-lt, drop-set-add, getD-take, getD-drop, set-append-left, take-append-le, drop-append-le}
+use Rattle.laws.proofs.Numbers.{split}
 use Rattle.nodes.specs.declared.node.Node.{Node}
 use Rattle.nodes.specs.Index.{parentOf, offsetOf}
 use Rattle.nodes.specs.Node.{zeroNode, withSum}
 use Rattle.nodes.specs.Run.{cut}
 use Rattle.nodes.specs.Walks.{sumAt, lowered}
 use Rattle.nodes.proofs.RunLaws.{length-cut}
-use Rattle.tree.proofs.BlockLaws.{split}
 
 pub cut-at : (m : ℕ) (F : List ℕ) (p : ℕ) → p < m → getD (cut m F) p zeroNode .sums ≡ take 16 (drop (16 * p) F)
 cut-at zero F p h = absurd (omega arith)

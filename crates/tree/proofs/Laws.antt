@@ -9,7 +9,7 @@ use native.Mathlib.Omega.{arith}
 use lib.ListN.{length, getD, set, replicate, length-append, length-replicate, length-set, List·getD-append}
 use lib.Seq.{set-append-left, getD-set-other, set-comm}
 use Rattle.laws.specs.Sums.{total}
-use Rattle.laws.proofs.Sums.{total-append}
+use Rattle.laws.proofs.Sums.{total-append, total-zeros}
 use Rattle.draws.specs.Weighted.{chosen}
 use Rattle.draws.proofs.WeightedLaws.{chosen-before, chosen-is}
 use Rattle.nodes.specs.declared.node.Node.{Node}
@@ -19,7 +19,6 @@ use Rattle.nodes.specs.Walks.{root, down, up, Enough}
 use Rattle.nodes.proofs.RunLaws.{length-cut}
 use Rattle.tree.specs.Sizes.{rows, above, deep, numNodes, treeSize}
 use Rattle.tree.specs.Levels.{levels, padded, sumsOf, treeOf}
-use Rattle.tree.proofs.BlockLaws.{total-zeros}
 use Rattle.tree.proofs.CutLaws.{cut-zero}
 use Rattle.tree.proofs.LevelLaws.{levels-long, levels-none, Taken, taken}
 use Rattle.tree.proofs.SearchLaws.{searched, deep-few}

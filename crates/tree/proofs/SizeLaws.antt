@@ -4,9 +4,9 @@ use mathlib.Core.Path.{_≡_, refl, sym, ap, _∙_}
 use mathlib.Core.Logic.{⊎-elim}
 use native.Mathlib.Omega.{arith}
 use borrow.Author.Tests.{lt-ltb, le-ltb, le-leb, lt-leb}
+use Rattle.laws.proofs.Numbers.{split}
 use Rattle.tree.specs.declared.sizes.Sizes.{Sizes}
 use Rattle.tree.specs.Sizes.{rows, sizesFrom, sizes, deep, numNodes, treeSize}
-use Rattle.tree.proofs.BlockLaws.{split}
 
 -- down, or here
 sizes-on : (steps size nodes n : ℕ) → nodes < rows n → sizesFrom (suc steps) size nodes n ≡ sizesFrom steps (size + nodes) (16 * nodes) n

@@ -15,7 +15,7 @@ use Rattle.laws.specs.Sums.{total}
 use Rattle.laws.specs.Counts.{consIf}
 use Rattle.laws.proofs.Sums.{total-take-suc, total-take-le}
 use Rattle.laws.proofs.Buffers.{Stored, stored-none, stored-next, stored-all}
-use Rattle.tree.proofs.BlockLaws.{split}
+use Rattle.laws.proofs.Numbers.{split}
 use Rattle.weighted_shuffle.specs.Order.{counts, countedFrom, counted, zerosFrom, zerosOf}
 use Rattle.weighted_shuffle.specs.Progress.{FromEnd}
 

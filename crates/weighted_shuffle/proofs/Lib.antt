@@ -9,5 +9,4 @@ pub mod FinishLaws
 pub mod WholeLaws
 pub mod ShuffleLaws
 pub mod DrawCalls
-pub mod LocalArray
 pub mod ShuffleCalls

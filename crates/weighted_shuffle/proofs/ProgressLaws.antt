@@ -11,15 +11,17 @@ use lib.ListN.{length, getD, set, take, length-set}
 use lib.Seq.{take-suc-set, getD-set-other, append-snoc}
 use borrow.Author.Tests.{eqb-true, eq-eqb, ne-eqb}
 use Rattle.laws.specs.Sums.{total}
+use Rattle.laws.proofs.Numbers.{split}
+use Rattle.laws.proofs.Sums.{total-less}
 use Rattle.refusals.specs.Refusals.{noWordLeft}
 use Rattle.words.specs.Outcome.{Outcome, refused, accepted, giving}
 use Rattle.words.specs.Stream.{stream}
+use Rattle.words.proofs.EachLaws.{giving-twice, giving-same}
 use Rattle.draws.specs.Below.{below, skipped}
 use Rattle.draws.specs.Weighted.{chosen}
 use Rattle.draws.proofs.BelowLaws.{drawn-lt}
 use Rattle.draws.proofs.WeightedLaws.{chosen-is, remainder-lt}
 use Rattle.nodes.specs.declared.node.Found.{Found}
-use Rattle.tree.proofs.BlockLaws.{split, total-less}
 use Rattle.weighted_shuffle.specs.declared.drawing.Drawing.{Drawing}
 use Rattle.weighted_shuffle.specs.Order.{Left, takeWeight, steps, zerosOf}
 use Rattle.weighted_shuffle.specs.Progress.{ahead, FromEnd, fromEnd, Progress, Valued, without, ending}
@@ -93,15 +95,6 @@ module _ (list : List ℕ) (left : Left) (k : ℕ) (s r : Drawing) (v : Valued l
       (λ (h : 0 < s .weight). absurd (omega (arith, refused-by list s r v h e)))
       (λ (h : s .weight ≤ 0). omega (arith, weight-is))
       (split 0 (s .weight))
-
--- giving twice
-pub giving-twice : {A B C : Type 0} (f : A → B) (g : B → C) (o : Outcome A) → giving g (giving f o) ≡ giving (λ a. g (f a)) o
-giving-twice f g (refused n) = refl
-giving-twice f g (accepted a left) = refl
-
-pub giving-same : {A B : Type 0} (f g : A → B) (o : Outcome A) → ((a : A) → f a ≡ g a) → giving f o ≡ giving g o
-giving-same f g (refused n) h = refl
-giving-same f g (accepted a left) h = ap (λ (b : _). accepted b left) (h a)
 
 -- the position that a value chooses is drawn, its weight is taken out, and the next value is drawn
 module _ {n : ℕ} {left : Left} {o : Outcome (List ℕ)} {drawn list : List ℕ} {s : Drawing} (p : Progress n left o drawn list s) (ready : s .ready ≡ true) where

@@ -14,6 +14,7 @@ use Rattle.laws.specs.Sums.{total, sumOf}
 use Rattle.laws.specs.Counts.{consIf, count}
 use Rattle.laws.proofs.Lists.{sum-append}
 use Rattle.laws.proofs.Orders.{sum-set}
+use Rattle.laws.proofs.Numbers.{split}
 use Rattle.words.specs.Outcome.{accepted, giving}
 use Rattle.words.proofs.Outcomes.{went}
 use Rattle.draws.specs.declared.weighted.Place.{Place}
@@ -23,7 +24,6 @@ use Rattle.draws.proofs.BelowLaws.{drawn-lt}
 use Rattle.draws.proofs.WeightedLaws.{placed}
 use Rattle.weighted_shuffle.specs.Order.{Left, Step, counted, zerosFrom, takeWeight, takeZero, step, steps, whole}
 use Rattle.weighted_shuffle.specs.Laws.{StepsByWeight, positionsFrom, AllZero, ZerosLast, OrdersWhole}
-use Rattle.tree.proofs.BlockLaws.{split}
 use Rattle.weighted_shuffle.proofs.BeginLaws.{length-counted}
 
 -- the sum of f over the positions whose weight is above 0

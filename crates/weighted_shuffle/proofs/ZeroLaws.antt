@@ -10,11 +10,11 @@ use lib.ListN.{length, getD, set, take, length-set, length-take}
 use lib.Seq.{take-suc-set, take-set-le, getD-take, getD-set-same, getD-set-other, append-snoc}
 use borrow.Author.Tests.{eqb-true, eqb-false}
 use Rattle.words.specs.Outcome.{refused, accepted, giving}
+use Rattle.words.proofs.EachLaws.{giving-twice, giving-same}
 use Rattle.draws.specs.Below.{below}
 use Rattle.draws.proofs.BelowLaws.{drawn-lt}
 use Rattle.weighted_shuffle.specs.Order.{takeZero, steps}
 use Rattle.weighted_shuffle.specs.Progress.{FromEnd, fromEnd, zerosDrawn}
-use Rattle.weighted_shuffle.proofs.ProgressLaws.{giving-twice, giving-same}
 
 -- read from the end
 length-end : (z n : ℕ) (drawn : List ℕ) → length (fromEnd z n drawn) ≡ z

@@ -109,3 +109,12 @@ module _ {A : Type 0} {f : A → List ℕ → Outcome ℕ} {xs : List A} {k : �
     where
       all : accepted buffer ws ≡ after (take i buffer) (each f (drop i xs) ws)
       all = rw (drop-of-length-le xs {i = i} (omega (arith, d .many)), append-nil (take i buffer), take-all i buffer (omega (arith, d .long)))
+
+-- giving twice
+pub giving-twice : {A B C : Type 0} (f : A → B) (g : B → C) (o : Outcome A) → giving g (giving f o) ≡ giving (λ a. g (f a)) o
+giving-twice f g (refused n) = refl
+giving-twice f g (accepted a left) = refl
+
+pub giving-same : {A B : Type 0} (f g : A → B) (o : Outcome A) → ((a : A) → f a ≡ g a) → giving f o ≡ giving g o
+giving-same f g (refused n) h = refl
+giving-same f g (accepted a left) h = ap (λ (b : _). accepted b left) (h a)

@@ -59,7 +59,7 @@ use Rattle.weighted_shuffle.specs.Calls.{shuffled, nodesAfter}
 use Rattle.weighted_shuffle.specs.Answers.{shuffleAnswer}
 use Rattle.weighted_shuffle.specs.Progress.{Begun, Drew, ending, backOf}
 use Rattle.weighted_shuffle.proofs.ShuffleLaws.{begun-asks, begun-started, drew-asks, drew-ending, drew-back, drew-nodes}
-use Rattle.weighted_shuffle.proofs.LocalArray.{words, zeros-typed, big-lit, lends-local, ends-local}
+use Rattle.nodes.proofs.LocalArray.{words, zeros-typed, big-lit, lends-local, ends-local}
 use Rattle.weighted_shuffle.proofs.DrawCalls.{DrawAll, calls-draw-all}
 use Rattle.weighted_shuffle.proofs.ShuffleCalls.{Begin, Finish, calls-begin, calls-finish}
 use Rattle.weighted_shuffle.proofs.answers.ShuffleAnswer as S
