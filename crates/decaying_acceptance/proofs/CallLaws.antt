@@ -1,10 +1,9 @@
 -- Laws of the calls: the checks, and what the answers of the draws say of them.
 use Prim.Native.Nat.{ℕ, _-_, _≤_}
 use mathlib.Core.Path.{_≡_, refl, ap, _∙_}
-use mathlib.Core.Bool.{Bool, true, false, _||_}
+use mathlib.Core.Bool.{false}
 use mathlib.Core.List.{List, [], _∷_, _++_, append-nil}
 use native.Mathlib.Omega.{arith}
-use lib.Dec.{eqb, ltb}
 use lib.ListN.{length, take, drop, replicate, length-replicate, drop-of-length-le}
 use lib.Seq.{length-take-le, take-take}
 use lib.Ieee.{Float}
@@ -12,7 +11,7 @@ use borrow.Author.Tests.{ltb-false}
 use Rattle.refusals.specs.declared.Refusal.{Refusal}
 use Rattle.refusals.specs.declared.Refusal.the-variants.{None, Number}
 use Rattle.refusals.specs.Refusals.{Check, lowest, listLength, size, triesAllowed, maxSamples, shortBuffer, sumPast, totalZero, countLimit}
-use Rattle.refusals.proofs.CheckLaws.{passed, Listed, listed, Summed, summed}
+use Rattle.refusals.proofs.CheckLaws.{passed, within, Listed, listed, Summed, summed}
 use Rattle.types.specs.declared.validator_index.ValidatorIndex.{ValidatorIndex}
 use Rattle.words.specs.Outcome.{Outcome, refused, accepted, bufferAfter}
 use Rattle.words.proofs.Outcomes.{goes-on, turned-down}
@@ -46,13 +45,6 @@ pub record Admitted (k places allowed : ℕ) (stakes counts : List ℕ) : Type 0
   pub sum : Summed stakes
   pub limit : countLimit counts (length stakes) k .applies ≡ false
 
-few-tries : (allowed : ℕ) → triesAllowed allowed .applies ≡ false → allowed ≤ 100000
-few-tries allowed e = go (eqb allowed 0) e
-  where
-    go : (b : Bool) → (b || ltb 100000 allowed) ≡ false → allowed ≤ 100000
-    go true e = absurd (let z : _≡_ {A = ℕ} 0 1 = cc in omega arith)
-    go false e = ltb-false 100000 allowed e
-
 pub admitted : (k places allowed : ℕ) (stakes counts : List ℕ) (max : Float) → lowest (quorumChecks k places allowed stakes counts max) ≡ None →
     Admitted k places allowed stakes counts
 admitted k places allowed stakes counts max e =
@@ -70,7 +62,7 @@ admitted k places allowed stakes counts max e =
     record {
       list = listed (length stakes) (p .head);
       size = ltb-false 1024 k (q .head);
-      tries = few-tries allowed (r .head);
+      tries = within 100000 allowed (r .head) .0;
       room = ltb-false places k (b .head);
       held = ltb-false (length counts) (length stakes) (h .head);
       sum = summed stakes (rw (s .head, t .head));

@@ -1,7 +1,7 @@
 -- Lists with the same elements in another order.
-use Prim.Native.Nat.{ℕ, _<_}
+use Prim.Native.Nat.{ℕ, zero, suc, _<_}
 use mathlib.Core.Path.{_≡_}
-use mathlib.Core.List.{List}
+use mathlib.Core.List.{List, [], _∷_}
 use lib.ListN.{length, getD, set}
 use Rattle.laws.specs.Sums.{sumOf}
 
@@ -22,3 +22,8 @@ Distinct d xs = (p q : ℕ) → p < length xs → q < length xs → getD xs p d 
 -- every number is below m
 abbrev pub AllBelow : ℕ → List ℕ → Type 0
 AllBelow m xs = (p : ℕ) → p < length xs → getD xs p 0 < m
+
+-- n ids, from i on
+abbrev pub idsFrom : ℕ → ℕ → List ℕ
+idsFrom i zero = []
+idsFrom i (suc n) = i ∷ idsFrom (suc i) n

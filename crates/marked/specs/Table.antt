@@ -5,12 +5,13 @@ use mathlib.Core.List.{List, [], _∷_, _++_}
 use lib.IntN.{pos}
 use lib.ListN.{getD, replicate}
 use lib.Ieee.{Float, fin}
+use Rattle.laws.specs.Orders.{idsFrom}
 use Rattle.words.specs.Outcome.{Outcome, refused, accepted}
 use Rattle.draws.specs.Below.{below}
 use Rattle.decaying_acceptance.specs.declared.tries.Seat.{Seat}
 use Rattle.decaying_acceptance.specs.Calls.{one}
 use Rattle.fill.specs.Fill.{binsOf, validatorsOf, stakesOf}
-use Rattle.partition.specs.Seats.{idsFrom, Parted, seatIds}
+use Rattle.partition.specs.Seats.{Parted, seatIds}
 use Rattle.partition.specs.Calls.{Places}
 use Rattle.partition.specs.Calls as bins
 use Rattle.fait_accompli.specs.declared.sampler.Fallback.the-variants.{Bins}

@@ -5,7 +5,7 @@ use mathlib.Core.List.{List, [], _∷_, _++_, map}
 use native.Mathlib.Nat.{sub-self}
 use native.Mathlib.Omega.{arith}
 use lib.ListN.{length, getD, drop, length-map}
-use Rattle.laws.specs.Orders.{Permutation, AllBelow}
+use Rattle.laws.specs.Orders.{Permutation, AllBelow, idsFrom}
 use Rattle.words.specs.Outcome.{Outcome, refused, accepted, next, each, giving, bufferAfter, wordsRead}
 use Rattle.draws.specs.Below.{below}
 use Rattle.draws.specs.Shuffle.{shuffle}
@@ -13,14 +13,15 @@ use Rattle.draws.specs.Weighted.{ids}
 use Rattle.draws.proofs.ShuffleLaws.{shuffle-permutes}
 use Rattle.fill.specs.Fill.{Share, Piece, fill, pieces, binsOf, validatorsOf, stakesOf}
 use Rattle.fill.specs.Values.{inOrder, seat, binTotal, binSums, Low, choices}
-use Rattle.partition.specs.Seats.{idsFrom, Parted, overBins, seatIds, pieceBins, pieceValidators, pieceStakes}
+use Rattle.laws.proofs.Ids.{order-long, order-below}
+use Rattle.partition.specs.Seats.{Parted, overBins, seatIds, pieceBins, pieceValidators, pieceStakes}
 use Rattle.partition.specs.Bins.{Fillable}
 use Rattle.partition.specs.Answers.{partitionAnswer, Holds}
 use Rattle.partition.specs.declared.answers.Partition.{Partition}
 use Rattle.partition.specs.declared.answers.PartitionAnswer.{PartitionAnswer}
 use Rattle.partition.specs.declared.answers.PartitionAnswer.the-variants.{Accepted, Refused}
 use Rattle.fill.proofs.ChoiceLaws.{seats-by-values, fill-totals}
-use Rattle.partition.proofs.OrderLaws.{order-total, order-below, order-long}
+use Rattle.partition.proofs.OrderLaws.{order-total}
 use Rattle.fill.proofs.ValueLaws.{sums-at, sums-long, values-low, some-left}
 use Rattle.partition.proofs.ReadLaws.{Got}
 

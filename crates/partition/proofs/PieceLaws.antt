@@ -10,7 +10,8 @@ use lib.ListN.{length, getD, length-map, List·getD-eq-default}
 use borrow.Author.Tests.{eq-eqb, ne-eqb}
 use Rattle.laws.specs.Sums.{total, sumOf}
 use Rattle.laws.specs.Counts.{countBelow, count}
-use Rattle.laws.specs.Orders.{Permutation}
+use Rattle.laws.specs.Orders.{Permutation, idsFrom}
+use Rattle.laws.proofs.Ids.{order-long}
 use Rattle.laws.proofs.Lists.{those-append, those-sum, those-length}
 use Rattle.refusals.specs.declared.Refusal.the-variants.{None}
 use Rattle.refusals.specs.Refusals.{lowest, emptyBin}
@@ -26,11 +27,11 @@ use Rattle.draws.proofs.WeightedLaws.{placed}
 use Rattle.draws.proofs.ShuffleLaws.{shuffle-permutes}
 use Rattle.fill.specs.Fill.{Share, Piece, fill, numbered, pieces, validatorsOf, stakesOf}
 use Rattle.fill.specs.Values.{inOrder, shareStakes, holder, seatOf, seat}
-use Rattle.partition.specs.Seats.{capacity, idsFrom, Parted, overBins, seatIds}
+use Rattle.partition.specs.Seats.{capacity, Parted, overBins, seatIds}
 use Rattle.partition.specs.Calls.{Places, quorumChecks}
 use Rattle.partition.specs.Pieces.{inBin, of, sumOfPieces, chooses, Filled, PartitionsFilled}
 use Rattle.fill.proofs.FillLaws.{numbered-sum, pieces-sum, Additive, measure, tally, fill-sums, fill-long, fill-adds, fill-single, fill-two, fill-positive}
-use Rattle.partition.proofs.OrderLaws.{order-long, order-total, order-weight, order-once, order-within}
+use Rattle.partition.proofs.OrderLaws.{order-total, order-weight, order-once, order-within}
 use Rattle.partition.proofs.CallLaws.{bySize, bySum, capacity-fits, last-some}
 use Rattle.fill.proofs.FillingLaws.{whole-number}
 

@@ -2,6 +2,7 @@
 use Prim.Native.Nat.{ℕ, zero, suc, _+_, _-_, _/_}
 use mathlib.Core.List.{List, [], _∷_}
 use lib.ListN.{length}
+use Rattle.laws.specs.Orders.{idsFrom}
 use Rattle.refusals.specs.Refusals.{lowest, emptyBin}
 use Rattle.words.specs.Outcome.{Outcome, accepted, next, each, giving, unless}
 use Rattle.draws.specs.declared.weighted.Place.{Place}
@@ -13,11 +14,6 @@ use Rattle.fill.specs.Values.{inOrder, seat}
 -- "capacity ceil(S / b)"
 abbrev pub capacity : ℕ → ℕ → ℕ
 capacity S b = (S + (b - 1)) / b
-
--- n ids from i on
-abbrev pub idsFrom : ℕ → ℕ → List ℕ
-idsFrom i zero = []
-idsFrom i (suc n) = i ∷ idsFrom (i + 1) n
 
 -- the seats drawn, by validator; the pieces in fill order; the words of the first list that are left
 pub record Parted : Type 0 where

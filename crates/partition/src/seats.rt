@@ -13,7 +13,8 @@ ghost use Rattle.words.specs.Outcome.{each, giving, bufferAfter};
 ghost use Rattle.draws.specs.Below.{below};
 ghost use Rattle.draws.specs.Shuffle.{shuffle};
 ghost use Rattle.fill.specs.Values.{binSums};
-ghost use Rattle.partition.specs.Seats.{idsFrom, overBins, parted, seatIds, pieceBins, pieceValidators, pieceStakes};
+ghost use Rattle.laws.specs.Orders.{idsFrom};
+ghost use Rattle.partition.specs.Seats.{overBins, parted, seatIds, pieceBins, pieceValidators, pieceStakes};
 ghost use Rattle.partition.specs.Bins.{Fillable, Partable};
 ghost use Rattle.partition.specs.Answers.{readAnswer, Holds, partitionAnswer};
 

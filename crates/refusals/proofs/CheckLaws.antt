@@ -15,7 +15,7 @@ use Rattle.refusals.specs.declared.Refusal.{Refusal}
 use Rattle.refusals.specs.declared.Refusal.the-variants.{None, Number}
 use Rattle.refusals.specs.declared.Summed.the-variants.{Sum, Refused}
 use Rattle.refusals.specs.Answers.{summedBy}
-use Rattle.refusals.specs.Refusals.{Check, lowest, listLength, committeeSize, sumPast, totalZero, anyAbove, countLimit}
+use Rattle.refusals.specs.Refusals.{Check, lowest, overOrZero, listLength, committeeSize, sumPast, totalZero, anyAbove, countLimit}
 
 -- where no check applies, the first does not, nor any after it
 pub record Passed (c : Check) (cs : List Check) : Type 0 where
@@ -49,7 +49,7 @@ last-passed [] d e = passed d [] e .head
 last-passed (c ∷ cs) d e = last-passed cs d (passed c (cs ++ (d ∷ [])) e .rest)
 
 -- a number that is neither above a limit nor 0
-within : (limit n : ℕ) → (ltb limit n || eqb n 0) ≡ false → (n ≤ limit) × (0 < n)
+pub within : (limit n : ℕ) → overOrZero limit n ≡ false → (n ≤ limit) × (0 < n)
 within limit n e = go (ltb limit n) refl n refl e
   where
     go : (b : Bool) → ltb limit n ≡ b → (m : ℕ) → n ≡ m → (b || eqb m 0) ≡ false → (n ≤ limit) × (0 < n)

@@ -20,9 +20,13 @@ abbrev pub lowest : List Check → Refusal
 lowest [] = None
 lowest (c ∷ cs) = cond (c .applies) (Number (c .number)) (lowest cs)
 
+-- over a limit, or 0
+abbrev pub overOrZero : ℕ → ℕ → Bool
+overOrZero limit n = ltb limit n || eqb n 0
+
 -- "list over 4,096, or empty"
 abbrev pub listLength : ℕ → Check
-listLength n = record { number = 1; applies = ltb 4096 n || eqb n 0 }
+listLength n = record { number = 1; applies = overOrZero 4096 n }
 
 -- "(the shuffle takes an empty one)"
 abbrev pub longList : ℕ → Check
@@ -34,15 +38,23 @@ size k = record { number = 2; applies = ltb 1024 k }
 
 -- "or k = 0 for FA1"
 abbrev pub committeeSize : ℕ → Check
-committeeSize k = record { number = 2; applies = ltb 1024 k || eqb k 0 }
+committeeSize k = record { number = 2; applies = overOrZero 1024 k }
 
 -- "tries allowed per seat 0 or over 100,000"
 abbrev pub triesAllowed : ℕ → Check
-triesAllowed tries = record { number = 3; applies = eqb tries 0 || ltb 100000 tries }
+triesAllowed tries = record { number = 3; applies = overOrZero 100000 tries }
 
 -- "`max_samples` NaN or not above 0"
 abbrev pub maxSamples : Float → Check
 maxSamples max = record { number = 4; applies = not (lt zeroF max) }
+
+-- "fanout 0 or over 4,096"
+abbrev pub fanoutLimit : ℕ → Check
+fanoutLimit fanout = record { number = 5; applies = overOrZero 4096 fanout }
+
+-- "own id not below n, or shred position not below k"
+abbrev pub notBelow : ℕ → ℕ → Check
+notBelow i bound = record { number = 6; applies = leb bound i }
 
 -- "a lent buffer is shorter than needed"
 abbrev pub shortBuffer : ℕ → ℕ → Check

@@ -6,7 +6,7 @@ ghost use mathlib.Core.Path.{_≡_};
 ghost use mathlib.Core.List.{[], _∷_};
 ghost use lib.ListN.{length};
 ghost use Rattle.laws.specs.Sums.{total};
-ghost use Rattle.refusals.specs.Refusals.{lowest, listLength, size, committeeSize, emptyBin, triesAllowed, maxSamples, sumPast, totalZero, countLimit};
+ghost use Rattle.refusals.specs.Refusals.{lowest, overOrZero, listLength, size, committeeSize, emptyBin, triesAllowed, maxSamples, fanoutLimit, notBelow, sumPast, totalZero, countLimit};
 ghost use Rattle.refusals.specs.Answers.{summedBy};
 
 // Whether a call is turned down, and by which number.
@@ -29,6 +29,10 @@ pub const TRIES_ALLOWED: u64 = 3;
 
 pub const MAX_SAMPLES: u64 = 4;
 
+pub const FANOUT: u64 = 5;
+
+pub const NOT_BELOW: u64 = 6;
+
 pub const SHORT_BUFFER: u64 = 7;
 
 pub const SUM_PAST: u64 = 8;
@@ -43,11 +47,18 @@ pub const NO_WORD_LEFT: u64 = 12;
 
 pub const LAST_TRY_REJECTED: u64 = 13;
 
+// Whether a number is over a limit, or 0.
+fn over_or_zero(limit: usize, n: usize) -> bool
+    ensures { λ r. ⌜ r ≡ overOrZero limit n ⌝ }
+{
+    limit < n || n == 0
+}
+
 // 1, for a list of n stakes.
 pub fn bad_list_length(n: usize) -> bool
     ensures { λ r. ⌜ r ≡ listLength n .applies ⌝ }
 {
-    4096 < n || n == 0
+    over_or_zero(4096, n)
 }
 
 // 2, for a committee or a number of bins.
@@ -61,14 +72,14 @@ pub fn bad_size(k: usize) -> bool
 pub fn bad_committee_size(k: usize) -> bool
     ensures { λ r. ⌜ r ≡ committeeSize k .applies ⌝ }
 {
-    1024 < k || k == 0
+    over_or_zero(1024, k)
 }
 
 // 3.
 pub fn bad_tries_allowed(tries: usize) -> bool
     ensures { λ r. ⌜ r ≡ triesAllowed tries .applies ⌝ }
 {
-    tries == 0 || 100_000 < tries
+    over_or_zero(100_000, tries)
 }
 
 // 4. A NaN is not above 0.
@@ -76,6 +87,20 @@ pub fn bad_max_samples(max_samples: f64) -> bool
     ensures { λ r. ⌜ r ≡ maxSamples «max_samples» .applies ⌝ }
 {
     !(0.0 < max_samples)
+}
+
+// 5.
+pub fn bad_fanout(fanout: usize) -> bool
+    ensures { λ r. ⌜ r ≡ fanoutLimit fanout .applies ⌝ }
+{
+    over_or_zero(4096, fanout)
+}
+
+// 6, for an own id or a shred position.
+pub fn bad_index(index: u64, bound: usize) -> bool
+    ensures { λ r. ⌜ r ≡ notBelow index bound .applies ⌝ }
+{
+    bound as u64 <= index
 }
 
 // 8 and 9.

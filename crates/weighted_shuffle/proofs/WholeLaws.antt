@@ -11,9 +11,11 @@ use lib.ListN.{length, getD, set, take, length-append, length-set}
 use lib.Seq.{take-suc, take-all, getD-set-same, getD-set-other, getD-append-seam, append-snoc}
 use borrow.Author.Tests.{eqb-true, eqb-false, eq-eqb, ne-eqb, lt-ltb, le-ltb}
 use Rattle.laws.specs.Sums.{total, sumOf}
-use Rattle.laws.specs.Counts.{consIf, count}
+use Rattle.laws.specs.Counts.{consIf}
+use Rattle.laws.specs.Orders.{Permutation, idsFrom}
 use Rattle.laws.proofs.Lists.{sum-append}
 use Rattle.laws.proofs.Orders.{sum-set}
+use Rattle.laws.proofs.Ids.{ids-long, order-count}
 use Rattle.laws.proofs.Numbers.{split}
 use Rattle.words.specs.Outcome.{accepted, giving}
 use Rattle.words.proofs.Outcomes.{went}
@@ -23,7 +25,7 @@ use Rattle.draws.specs.Weighted.{weighted, Placed}
 use Rattle.draws.proofs.BelowLaws.{drawn-lt}
 use Rattle.draws.proofs.WeightedLaws.{placed}
 use Rattle.weighted_shuffle.specs.Order.{Left, Step, counted, zerosFrom, takeWeight, takeZero, step, steps, whole}
-use Rattle.weighted_shuffle.specs.Laws.{StepsByWeight, positionsFrom, AllZero, ZerosLast, OrdersWhole}
+use Rattle.weighted_shuffle.specs.Laws.{StepsByWeight, AllZero, ZerosLast, OrdersWhole}
 use Rattle.weighted_shuffle.proofs.BeginLaws.{length-counted}
 
 -- the sum of f over the positions whose weight is above 0
@@ -54,12 +56,12 @@ heavy-take f k (w ∷ ws) zero h g = let z : k + 0 ≡ k = omega arith in rw (ne
 heavy-take f k (w ∷ ws) (suc p) h g = let z : k + suc p ≡ suc k + p = omega arith in rw z (omega (arith, heavy-take f (suc k) ws p (omega arith) g))
 
 -- all positions are heavy or zeros
-heavy-zeros : (f : ℕ → ℕ) (k : ℕ) (ws : List ℕ) → heavy f k ws + sumOf f (zerosFrom k ws) ≡ sumOf f (positionsFrom k (length ws))
+heavy-zeros : (f : ℕ → ℕ) (k : ℕ) (ws : List ℕ) → heavy f k ws + sumOf f (zerosFrom k ws) ≡ sumOf f (idsFrom k (length ws))
 heavy-zeros f k [] = refl
 heavy-zeros f k (w ∷ ws) = go (eqb w 0) (heavy-zeros f (suc k) ws)
   where
-    go : (b : Bool) → heavy f (suc k) ws + sumOf f (zerosFrom (suc k) ws) ≡ sumOf f (positionsFrom (suc k) (length ws)) →
-        cond b 0 (f k) + heavy f (suc k) ws + sumOf f (consIf b k (zerosFrom (suc k) ws)) ≡ f k + sumOf f (positionsFrom (suc k) (length ws))
+    go : (b : Bool) → heavy f (suc k) ws + sumOf f (zerosFrom (suc k) ws) ≡ sumOf f (idsFrom (suc k) (length ws)) →
+        cond b 0 (f k) + heavy f (suc k) ws + sumOf f (consIf b k (zerosFrom (suc k) ws)) ≡ f k + sumOf f (idsFrom (suc k) (length ws))
     go true e = omega (arith, e)
     go false e = omega (arith, e)
 
@@ -261,34 +263,18 @@ zeros-start k before (w ∷ ws) h = go (eqb w 0) refl (rw (append-snoc before w 
     go true e a = (rw (← h) (getD-append-seam before w ws 0 ∙ eqb-true w 0 e), a)
     go false e a = a
 
-positions-long : (k n : ℕ) → length (positionsFrom k n) ≡ n
-positions-long k zero = refl
-positions-long k (suc n) = ap suc (positions-long (suc k) n)
-
--- each position stands once among all
-count-before : (p k n : ℕ) → p < k → count p (positionsFrom k n) ≡ 0
-count-before p k zero h = refl
-count-before p k (suc n) h = rw (ne-eqb k p (λ e. absurd (omega (arith, h)))) (omega (arith, count-before p (suc k) n (omega arith)))
-
-count-once : (p k n : ℕ) → k ≤ p → p < k + n → count p (positionsFrom k n) ≡ 1
-count-once p k zero l h = absurd (omega arith)
-count-once p k (suc n) l h = go (eqb k p) refl (count-once p (suc k) n)
-  where
-    go : (b : Bool) → eqb k p ≡ b → (suc k ≤ p → p < suc k + n → count p (positionsFrom (suc k) n) ≡ 1) → cond b 1 0 + count p (positionsFrom (suc k) n) ≡ 1
-    go true e ih = omega (arith, count-before p (suc k) n (omega (arith, eqb-true k p e)))
-    go false e ih = omega (arith, ih (⊎-elim (λ (g : k < p). g) (λ (g : p ≤ k). absurd (eqb-false k p e (omega arith))) (split k p)) (omega arith))
-
 pub orders-whole : OrdersWhole
 orders-whole weights ws ps left e =
     let n : ℕ = length weights in
     let C : List ℕ = counted weights in
     let long : length C ≡ n = length-counted 0 weights in
-    let all : (f : ℕ → ℕ) → mass f (whole weights) ≡ sumOf f (positionsFrom 0 n) = λ f. heavy-zeros f 0 C ∙ ap (λ (k : ℕ). sumOf f (positionsFrom 0 k)) long in
-    let number : mass (λ _. 1) (whole weights) ≡ n = all (λ _. 1) ∙ ones (positionsFrom 0 n) ∙ positions-long 0 n in
+    let all : (f : ℕ → ℕ) → mass f (whole weights) ≡ sumOf f (idsFrom 0 n) = λ f. heavy-zeros f 0 C ∙ ap (λ (k : ℕ). sumOf f (idsFrom 0 k)) long in
+    let number : mass (λ _. 1) (whole weights) ≡ n = all (λ _. 1) ∙ ones (idsFrom 0 n) ∙ ids-long 0 n in
     let m = steps-mass n (whole weights) ws ps left number e in
+    let permutes : Permutation (idsFrom 0 n) ps = record { long = m .0 ∙ sym (ids-long 0 n); sums = λ f. m .1 f ∙ all f } in
     record {
-      permutation = record { long = m .0 ∙ sym (positions-long 0 n); sums = λ f. m .1 f ∙ all f };
-      once = λ p h. m .1 (λ x. cond (eqb x p) 1 0) ∙ all (λ x. cond (eqb x p) 1 0) ∙ count-once p 0 n (omega arith) (omega arith);
+      permutation = permutes;
+      once = order-count n ps permutes;
       zeros-last = zeros-last C n (whole weights) ws ps left number (record { heavy-since = λ p h. h; zero-since = zeros-start 0 [] C refl }) e;
     }
 

@@ -1,11 +1,11 @@
 -- What is promised of every step and of every order.
-use Prim.Native.Nat.{ℕ, zero, suc, _<_}
+use Prim.Native.Nat.{ℕ, _<_}
 use mathlib.Core.Path.{_≡_}
 use mathlib.Core.List.{List, [], _∷_}
 use lib.ListN.{length, getD}
 use Rattle.laws.specs.Sums.{total}
 use Rattle.laws.specs.Counts.{count}
-use Rattle.laws.specs.Orders.{Permutation}
+use Rattle.laws.specs.Orders.{Permutation, idsFrom}
 use Rattle.words.specs.Outcome.{accepted}
 use Rattle.weighted_shuffle.specs.Order.{Left, Step, counted, step, order}
 
@@ -13,11 +13,6 @@ use Rattle.weighted_shuffle.specs.Order.{Left, Step, counted, step, orde
 abbrev pub StepsByWeight : Type 0
 StepsByWeight = (left : Left) (ws : List ℕ) (s : Step) (words : List ℕ) → 0 < total (left .weights) → step left ws ≡ accepted s words →
     (s .position < length (left .weights)) × (0 < getD (left .weights) (s .position) 0)
-
--- n positions, from k on
-abbrev pub positionsFrom : ℕ → ℕ → List ℕ
-positionsFrom k zero = []
-positionsFrom k (suc n) = k ∷ positionsFrom (suc k) n
 
 -- every position is of weight zero
 abbrev pub AllZero : List ℕ → List ℕ → Type 0
@@ -31,7 +26,7 @@ ZerosLast weights (p ∷ ps) = (getD weights p 0 ≡ 0 → AllZero weights ps) �
 
 -- the whole order of n weights is a permutation of 0 to n − 1, each position comes once, and the zeros stand last
 pub record Whole (weights ps : List ℕ) : Type 0 where
-  pub permutation : Permutation (positionsFrom 0 (length weights)) ps
+  pub permutation : Permutation (idsFrom 0 (length weights)) ps
   pub once : (p : ℕ) → p < length weights → count p ps ≡ 1
   pub zeros-last : ZerosLast (counted weights) ps
 

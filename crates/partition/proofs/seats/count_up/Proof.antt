@@ -3,8 +3,9 @@ use Prim.Native.Nat.{_-_}
 use native.Mathlib.Omega.{arith}
 use lib.ListN.{length}
 use Rattle.laws.proofs.Buffers.{Stored, stored-none, stored-whole}
-use Rattle.partition.specs.Seats.{idsFrom}
-use Rattle.partition.proofs.OrderLaws.{ids-long, counted-next}
+use Rattle.laws.specs.Orders.{idsFrom}
+use Rattle.laws.proofs.Ids.{ids-long}
+use Rattle.partition.proofs.OrderLaws.{counted-next}
 use borrow.Author.Needs.{needs}
 use Rattle.partition.proofs.seats.count_up.Statement.{statement}
 use Rattle.partition.proofs.seats.count_up.Tie as tie

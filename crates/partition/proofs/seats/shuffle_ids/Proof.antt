@@ -11,7 +11,7 @@ use Rattle.draws.specs.declared.shuffle.Shuffled.the-variants.{Done, NoWord}
 use Rattle.draws.specs.Shuffle.{shuffle}
 use Rattle.draws.specs.Answers.{shuffledSays}
 use Rattle.draws.proofs.ShuffleLaws.{shuffle-no-longer}
-use Rattle.partition.specs.Seats.{idsFrom}
+use Rattle.laws.specs.Orders.{idsFrom}
 use Rattle.partition.proofs.ReadLaws.{read-accepted, read-refused}
 use borrow.Author.Needs.{needs}
 use Rattle.partition.proofs.seats.shuffle_ids.Statement.{statement}
