@@ -1,0 +1,4 @@
+pub mod Ascii
+pub mod Seeds
+pub mod Laws
+pub mod Examples
