@@ -19,6 +19,10 @@ use Rattle.fait_accompli.specs.Seats.{fixedOf, keptOf, Committee, seatsOf, piec
 use Rattle.fait_accompli.specs.Calls as fa1
 use Rattle.tree.specs.Sizes.{sizes}
 use Rattle.weighted_shuffle.specs.Calls.{shuffled}
+use Rattle.turbine.specs.declared.answers.Parent.{Parent}
+use Rattle.turbine.specs.declared.answers.Parent.the-variants as parent
+use Rattle.turbine.specs.View.{Neighborhood}
+use Rattle.turbine.specs.Calls.{view}
 
 pub record Row : Type 0 where
   pub gives : List ℕ
@@ -52,6 +56,15 @@ toldSizes n = sizes n .«num_nodes» ∷ sizes n .«tree_size» ∷ []
 abbrev pub toldOrder : Outcome (List ℕ) → List ℕ
 toldOrder (accepted ps left) = 0 ∷ ps
 toldOrder (refused n) = n ∷ []
+
+-- a view: 0, the root, 0 for no parent or 1 and its id, then the children; or the refusal
+abbrev pub toldParent : Parent → List ℕ
+toldParent parent.None = 0 ∷ []
+toldParent (parent.Some id) = 1 ∷ id .0 ∷ []
+
+abbrev pub toldView : Outcome Neighborhood → List ℕ
+toldView (accepted v left) = 0 ∷ v .root ∷ (toldParent (v .parent) ++ v .children)
+toldView (refused n) = n ∷ []
 
 -- buffers that are long enough
 abbrev enough : Places
@@ -103,6 +116,8 @@ table =
     ∷ record { gives = toldSizes 17; says = 17 ∷ 3 ∷ [] }
     -- shuffle of 2, 0, 3 with words 4, 1, 0: order 2, 0, 1
     ∷ record { gives = toldOrder (shuffled (2 ∷ 0 ∷ 3 ∷ []) 3 1 (4 ∷ 1 ∷ 0 ∷ [])); says = 0 ∷ 2 ∷ 0 ∷ 1 ∷ [] }
+    -- on it fanout 2, own 2: the root, with children 0, 1
+    ∷ record { gives = toldView (view (2 ∷ 0 ∷ 3 ∷ []) 2 2 (record { order = 3; nodes = 1; children = 2 }) (4 ∷ 1 ∷ 0 ∷ [])); says = 0 ∷ 2 ∷ 0 ∷ 0 ∷ 1 ∷ [] }
     ∷ []
 
 -- the row at i; past the table's end, an empty one

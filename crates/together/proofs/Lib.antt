@@ -1,2 +1,3 @@
 pub mod Committees
+pub mod Views
 pub mod Examples

@@ -1,1 +1,2 @@
 pub mod Committees
+pub mod Views

@@ -1,0 +1,42 @@
+-- Laws of the children's part of an order.
+use Prim.Native.Nat.{ℕ, _+_, _-_, _*_, _≤_, _<_, min}
+use mathlib.Core.Path.{_≡_, sym, ap, _∙_}
+use mathlib.Core.Logic.{_⊎_, ⊎-elim}
+use mathlib.Core.List.{List, []}
+use native.Mathlib.Nat.{mul-le-mul}
+use native.Mathlib.Omega.{arith}
+use lib.Seq.{take-all}
+use lib.ListN.{length, take, drop, length-take, length-drop, drop-of-length-le}
+use Rattle.laws.proofs.Numbers.{split}
+use Rattle.turbine.specs.View.{childrenAt}
+
+-- the first place of the children fits
+pub first-le : (p fanout : ℕ) → p ≤ 4096 → fanout ≤ 4096 → p * fanout ≤ 16777216
+first-le p fanout h g = mul-le-mul {n₁ = p} {m₁ = fanout} {n₂ = 4096} {m₂ = 4096} h g
+
+-- no more can be taken than there are
+pub take-min : (k : ℕ) (xs : List ℕ) → take (min k (length xs)) xs ≡ take k xs
+take-min k xs = ⊎-elim some all (split k (length xs))
+  where
+    some : k < length xs → take (min k (length xs)) xs ≡ take k xs
+    some h = let e : min k (length xs) ≡ k = omega arith in ap (λ (m : ℕ). take m xs) e
+
+    all : length xs ≤ k → take (min k (length xs)) xs ≡ take k xs
+    all h = take-all (min k (length xs)) xs (omega arith) ∙ sym (take-all k xs h)
+
+module _ (fanout : ℕ) (order : List ℕ) (p : ℕ) where
+  abbrev first : ℕ
+  first = p * fanout + 1
+
+  -- past the end there are no children
+  pub children-none : length order ≤ first → childrenAt fanout order p ≡ []
+  children-none h = ap (take fanout) (drop-of-length-le order {i = first} h) ∙ take-all {A = ℕ} fanout [] (omega arith)
+
+  -- elsewhere they are that many
+  pub children-long : length (childrenAt fanout order p) ≡ min fanout (length order - first)
+  children-long = length-take fanout (drop first order) ∙ ap (min fanout) (length-drop first order)
+
+  pub children-part : (end : ℕ) → end ≡ first + min fanout (length order - first) → take (end - first) (drop first order) ≡ childrenAt fanout order p
+  children-part end e =
+      let k : end - first ≡ min fanout (length (drop first order)) = omega (arith, e, length-drop first order) in
+      ap (λ (m : ℕ). take m (drop first order)) k ∙ take-min fanout (drop first order)

@@ -1,0 +1,6 @@
+pub mod PositionLaws
+pub mod ChildLaws
+pub mod AnswerLaws
+pub mod CallLaws
+pub mod TreeLaws
+pub mod ViewCalls
