@@ -10,7 +10,9 @@ slice-aggregate-quorum-by-length : tie.Need-slice-aggregate-quorum-by-length
 slice-aggregate-quorum-by-length c = search needs
 
 quorum-by-length-requires : tie.Need-quorum-by-length-requires
-quorum-by-length-requires c κs = search needs
+quorum-by-length-requires c κs =
+    let s = c .before .before .before .before .before .before .before .before in
+    (s .pre, c .before .before .before .if1 .taken)
 
 same-length : tie.Need-same-length
 same-length c = search needs
