@@ -5,7 +5,7 @@ import math
 import random
 import sys
 
-from model import bits_of, write_fields
+from model import Words, bits_of, shuffle_order, write_fields
 
 SEED = 20_250_101
 TOP = 2**64 - 1
@@ -568,6 +568,101 @@ def shuffle_cases():
     yield case("tree", stakes=[0] * 2**16)
 
 
+# ---- The limits of views, seeds and relays ----
+
+def view(stakes, fanout, own, supply):
+    return case("turbine", stakes=stakes, fanout=fanout, own=own, words=supply)
+
+
+def fanouts(n):
+    """Fanouts at the limits and about the list's length."""
+    return sorted({1, 2, 16, 200, 4_096, n - 1, n, n + 1}.intersection(range(1, 4_097)))
+
+
+def positions(n, fanout):
+    """The first and second position, the last parent and the one after it, and the last."""
+    last_parent = max(n - 2, 0) // fanout
+    return sorted({0, 1, last_parent, last_parent + 1, n - 1}.intersection(range(n)))
+
+
+def every_view(stakes, supply):
+    """The view of every validator, with few and with many children."""
+    for fanout in sorted({1, 2, 3, 200}.union(fanouts(len(stakes)))):
+        for own in range(len(stakes)):
+            yield view(stakes, fanout, own, supply)
+
+
+def small_views():
+    """All views of short lists; zeros, equal weights, weights that overflow."""
+    yield from every_view([2, 0, 3], [4, 1, 0])
+    for n in range(1, 7):
+        yield from every_view([(i + 1) % 3 for i in range(n)], few_digits(n))
+    for stakes in ([0] * 4, [7] * 5, [0, 0, 5, 0, 0], [TOP, 1, 0], [TOP - 1, 2, 1, 1],
+                   [HALF, HALF - 1, 1, 0], [5, TOP, 5]):
+        yield from every_view(stakes, spread(len(stakes)))
+
+
+def long_views():
+    """Lists of each length at which the tree changes, with every kind of position; the long ones
+    are mostly zeros."""
+    for n in (15, 16, 17, 33, 255, 256, 257, 4_095, 4_096):
+        stakes = [(1 + i % 5) * (n < 100 or i % 16 == 0) for i in range(n)]
+        supply = few_digits(n)
+        order = shuffle_order(stakes, Words(supply))
+        for fanout in fanouts(n) if n < 4_000 else (1, 16, 200, n - 1, 4_096):
+            for p in positions(n, fanout):
+                yield view(stakes, fanout, order[p], supply)
+
+
+def word_views():
+    """Words that run out at every place, and words that are skipped."""
+    for stakes, supply in (*dry_shuffles(), *skipping_shuffles(), *valued_shuffles()):
+        for own in (0, len(stakes) - 1):
+            yield view(stakes, 2, own, supply)
+
+
+def refused_views():
+    """Every reason to turn a view down, alone and with those after it."""
+    for stakes in ([], [3], [2, 0, 3]):
+        n = len(stakes)
+        for fanout in (0, 1, 4_096, 4_097, HALF, TOP):
+            for own in (0, n, n + 1, TOP):
+                # With the highest fanouts the Rust's products wrap, where the own id is found.
+                if fanout < HALF or own >= n:
+                    yield view(stakes, fanout, own, few_digits(n))
+    yield view([0] * 4_097, 2, 0, few_digits(4_097))
+    yield view([0] * 4_097, 0, 4_097, [])
+    for fanout, own in ((0, 3), (2, 3), (0, 0), (2, 0)):
+        yield view([2, 0, 3], fanout, own, [])
+
+
+def seed_cases():
+    """Numbers that differ in each byte, and each byte alone."""
+    numbers = [0, 1, 255, 256, HALF, TOP, 0x0102030405060708, 0xF0E0D0C0B0A09080]
+    numbers += [1 << 8 * i for i in range(8)]
+    for i, slot in enumerate(numbers):
+        number = numbers[-1 - i]
+        yield case("turbine_seed", slot=slot, shred=number)
+        yield case("rotor_seed", slot=slot, slice=number)
+
+
+def relay_cases():
+    """Each position about the ends of committees, of which the longest are refused."""
+    rng = random.Random(SEED)
+    for k in (0, 1, 2, 3, 63, 64, 65, 200, 1_023, 1_024, 1_025):
+        seats = [i * GOLDEN % 2**64 >> 52 for i in range(1, k + 1)]
+        for shred in sorted({0, 1, k // 2, 62, 63, 64, 65, k - 2, k - 1, k, k + 1, TOP} - {-1, -2}):
+            yield case("relay", seats=seats, shred=shred)
+    for _ in range(200):
+        seats = [rng.choice([rng.randrange(4_096), TOP]) for _ in range(rng.randrange(70))]
+        yield case("relay", seats=seats, shred=rng.randrange(72))
+
+
+def turbine_cases():
+    for limit in (small_views, long_views, word_views, refused_views, seed_cases, relay_cases):
+        yield from limit()
+
+
 LIMITS = (length_cases, size_cases, sum_cases, worked_cases, whole_seat_cases, no_seat_cases,
           dry_cases, decaying_cases, last_try_cases, later_try_cases, rejected_once_cases,
           dry_try_cases, long_list_cases, scratch_cases, zero_stake_cases, skip_cases, lowest_cases,
@@ -576,12 +671,13 @@ LIMITS = (length_cases, size_cases, sum_cases, worked_cases, whole_seat_cases, n
 
 def cases(n):
     """About n cases: the limits, all of them for any n, then random ones. The limits of the shuffle
-    come last and are not among the n, so that the random cases stay the same."""
+    and of views, seeds and relays come last and are not among the n, so that the random cases stay
+    the same."""
     rng = random.Random(SEED)
     lines = [line for limit in LIMITS for line in limit(rng)]
     while len(lines) < n:
         lines.append(rng.choice(GENERATORS)(rng))
-    return lines + list(shuffle_cases())
+    return [*lines, *shuffle_cases(), *turbine_cases()]
 
 
 def main():

@@ -1,6 +1,6 @@
 #!/usr/bin/env python3
 """`compare.py ORACLE N`: the model and the oracle's binary over about N cases and
-the stored cases of the samplers and the shuffle.
+the stored cases, but for those of the draws.
 
 A difference is explained if the condition of a known kind holds of the case and
 the oracle's answer is the one that the known kinds, taken together, lead to.
@@ -24,6 +24,7 @@ from model import MAX_COUNT, MAX_FANOUT, MAX_LIST, MAX_SEATS, MAX_TRIES, WORD_EN
 from store import compared_lines
 
 ALL_KINDS_FROM = 20_000
+TOTAL_SHREDS = 64
 DIFFERENCES = Path(__file__).resolve().parents[2] / "docs" / "DIFFERENCES.md"
 DECAYING = {"decaying", "decaying_one"}
 FA1 = {"fa1_bins", "fa1_draws"}
@@ -42,8 +43,12 @@ class Case:
         self.total = sum(self.stakes)
         self.samples = self.operation in SAMPLERS
         self.fa1 = self.operation in FA1
+        relay = self.operation == "relay"
         # Seats or bins; a single seat for the rest.
-        self.size = self.fields.get("k", self.fields.get("bins", 1))
+        seats = len(self.fields["seats"]) if relay else 1
+        self.size = self.fields.get("k", self.fields.get("bins", seats))
+        # The position of a seat; the first for the rest.
+        self.position = self.fields["shred"] if relay else 0
         self.fanout = self.fields.get("fanout", 1)
         self.allowed = self.fields.get("allowed", MAX_TRIES)
 
@@ -138,6 +143,13 @@ KINDS = (
     Kind("own id not in the list",
          '"6: own id not below n": it panics there, once the list is shuffled.',
          lambda case: case.operation == "turbine" and case.fields["own"] >= len(case.stakes)),
+    Kind("shred position of 64 or more",
+         "k may be up to 1,024 here; there is no such `ShredIndex` in the Rust, whose committees "
+         "have 64 seats.",
+         lambda case: case.position >= TOTAL_SHREDS),
+    Kind("shred position not below k",
+         '"A shred position at or past k indexes out there; refused here."',
+         lambda case: case.operation == "relay" and case.position >= case.size),
     Kind("sum past 2^64 - 1",
          '"8: stakes sum past 2^64 - 1": it wraps or panics there.',
          lambda case: case.samples and case.total >= WORD_END),
@@ -211,7 +223,8 @@ def rust_ways(case):
 
 def predicted(case):
     """The oracle's answer by the known kinds, or None if sums wrap."""
-    if case.allowed != MAX_TRIES:
+    if case.allowed != MAX_TRIES or case.position >= TOTAL_SHREDS:
+        # It cannot be asked there.
         return "panic"
     if case.operation == "fa1_draws" and not case.stakes:
         # Its weighted sampler is made even if no seat is drawn.
@@ -223,8 +236,8 @@ def predicted(case):
             return as_oracle(model.answer(case.line))
     except Unpredicted:
         return None
-    except (ZeroDivisionError, ValueError):
-        # Divided by no seats, no weight or no fanout; the own id is not found.
+    except (ZeroDivisionError, ValueError, IndexError):
+        # Divided by no seats, no weight or no fanout; the own id or the seat is not found.
         return "panic"
 
 

@@ -1,4 +1,4 @@
-"""What the stored lists of the samplers and the shuffle must show, as named conditions on a stored
+"""What the stored lists, but for those of the draws, must show, as named conditions on a stored
 case.
 
 store.py picks the cases so that each condition is met; test_model.py looks for each of them in the
@@ -10,9 +10,9 @@ from collections import Counter
 from itertools import accumulate
 from typing import NamedTuple
 
-from model import (MAX_COUNT, MAX_LIST, MAX_SEATS, MAX_TRIES, WORD_END, Refused, Words, bits_of,
-                   counted_weights, fa1_fixed, list_shuffle, nodes_needed, pieces_needed,
-                   zero_positions)
+from model import (MAX_COUNT, MAX_FANOUT, MAX_LIST, MAX_SEATS, MAX_TRIES, SEED_BYTES, WORD_END,
+                   Refused, Words, bits_of, children_needed, counted_weights, fa1_fixed,
+                   list_shuffle, nodes_needed, pieces_needed, zero_positions)
 
 TOP = WORD_END - 1
 HALF = 2**63
@@ -128,6 +128,25 @@ class Stored(NamedTuple):
     def first_value(self):
         """The value drawn first, where no word is skipped."""
         return self.words()[0] % sum(counted_weights(self.stakes))
+
+    # ---- Of a view ----
+
+    @property
+    def fanout(self):
+        return self.given["fanout"]
+
+    @property
+    def own(self):
+        return self.given["own"]
+
+    @property
+    def position(self):
+        """The own validator's position in the order of an accepted view."""
+        return self.answer["order"].index(self.own)
+
+    @property
+    def children(self):
+        return len(self.answer["children"])
 
 
 def refused(number, holds=lambda c: True):
@@ -537,6 +556,174 @@ SHUFFLE = {
         lambda c: c.n > 2 and c.total == 0 and c.answer["order"][:2] == [0, c.n - 1]),
 }
 
+# ---- Views, seeds and relays ----
+
+# Lists of which the views of all validators are stored, and with which fanouts.
+SMALL_LISTS = (([0], (1, 200)), ([1], (1, 2, 200)), ([2, 0, 3], (1, 2, 3, 4)), ([0] * 4, (2,)),
+               ([1, 2, 0, 1], (1, 2, 3)), ([1, 2, 0, 1, 2], (2, 3)),
+               ([1, 2, 0, 1, 2, 0], (1, 2, 3, 5, 6, 7)), ([TOP, 1, 0], (2,)),
+               ([TOP - 1, 2, 1, 1], (1, 2)))
+
+
+def is_view(c, stakes, fanout, own):
+    words_are = c.words()[:3] == [4, 1, 0] or stakes != [2, 0, 3]
+    return (c.stakes, c.fanout, c.own) == (stakes, fanout, own) and words_are
+
+
+SMALL_VIEWS = {
+    f"{own} of {stakes}, fanout {fanout}": accepted(
+        lambda c, view=(stakes, fanout, own): is_view(c, *view))
+    for stakes, fanouts in SMALL_LISTS for fanout in fanouts for own in range(len(stakes))
+}
+
+POSITIONS = {
+    "the root with all its children": accepted(
+        lambda c: c.position == 0 and c.children == c.fanout > 1),
+    "the root, a child missing": accepted(
+        lambda c: c.position == 0 and c.children == c.fanout - 1 > 0),
+    "a parent that is not the root, with all its children": accepted(
+        lambda c: c.position > 1 and c.children == c.fanout > 1),
+    "the last parent, its last child missing": accepted(
+        lambda c: c.position > 0 and c.children == c.fanout - 1 > 0),
+    "the last parent with one child of several": accepted(
+        lambda c: c.position > 0 and c.children == 1 < c.fanout - 1),
+    "the last parent with all its children": accepted(
+        lambda c: c.position > 0 and c.position * c.fanout + c.fanout == c.n - 1 and c.fanout > 1),
+    "the leaf after the last parent": accepted(
+        lambda c: c.children == 0 and 1 < c.position == (c.n - 2) // c.fanout + 1 < c.n - 1),
+    "the last leaf": accepted(lambda c: c.children == 0 and 1 < c.position == c.n - 1),
+    "the first child of a parent that is not the root": accepted(
+        lambda c: c.position > c.fanout > 1 and c.position % c.fanout == 1),
+    "the last child of a parent": accepted(
+        lambda c: c.position > c.fanout > 1 and c.position % c.fanout == 0),
+    "children that stand before their parent in the list": accepted(
+        lambda c: c.children > 1 and max(c.answer["children"]) < c.own),
+    "a root that is not the first of the list": accepted(lambda c: c.answer["root"] > 0),
+    "a parent with the id 0": accepted(
+        lambda c: c.answer["has_parent"] == 1 and c.answer["parent"] == 0),
+    "a zero with children": accepted(lambda c: c.own in c.zeros and c.children > 0 < c.position),
+}
+
+VIEWS = {
+    **lengths(1, 2, 15, 16, 17, 33, 255, 256, 257, MAX_LIST),
+    **{f"fanout {fanout}": accepted(
+        lambda c, fanout=fanout: c.fanout == fanout and c.children > 0)
+       for fanout in (1, 2, 3, 16, 200, MAX_FANOUT)},
+    **{f"fanout {name} n": accepted(lambda c, more=more: c.n > 2 and c.fanout == c.n + more)
+       for name, more in (("just below", -1), ("of", 0), ("just above", 1))},
+    **{f"{n} validators, fanout {fanout}, {name}": accepted(
+        lambda c, n=n, fanout=fanout, holds=holds: (c.n, c.fanout) == (n, fanout) and holds(c))
+       for n, fanout, name, holds in (
+           (257, 16, "an inner one", lambda c: c.position > 0 < c.children),
+           (257, 200, "the last parent", lambda c: c.position == 1),
+           (256, 16, "the last parent", lambda c: 0 < c.children < 16),
+           (MAX_LIST, 200, "the last parent", lambda c: 0 < c.children < 200),
+           (MAX_LIST, MAX_FANOUT, "the root", lambda c: c.children == MAX_LIST - 1))},
+    **ZEROS,
+    **{f"{n} zeros": accepted(lambda c, n=n: c.stakes == [0] * n) for n in (1, 4)},
+    "a weight overflows": accepted(lambda c: c.overflowing),
+    **SMALL_VIEWS,
+    **POSITIONS,
+}
+
+VIEW_WORDS = {
+    **word_limits(needed=lambda c: c.n),
+    "a word skipped, only zeros": accepted(lambda c: c.total == 0 and c.answer["read"] > c.n),
+    **words_end(5, stakes=FIVE_STAKES),
+    **words_end(6, stakes=[0, 3, 0, 0, 4, 1]),
+    **words_end(3, stakes=[0, 0, 0]),
+    **words_end(4, stakes=[TOP - 1, 2, 1, 1]),
+}
+
+
+def places_more(c):
+    """How many places more than needed the order, the nodes and the children have."""
+    return [c.given["room"] - c.n, c.given["room_nodes"] - nodes_needed(c.stakes),
+            c.given["room_children"] - children_needed(c.stakes, c.fanout)]
+
+
+def one_short(short, holds=lambda c: True):
+    """A view that only this one of the three buffers turns down, by one place."""
+    return refused(7, lambda c: [min(more, 0) for more in places_more(c)]
+                   == [-(i == short) for i in range(3)] and holds(c))
+
+
+VIEW_PLACES = {
+    **{f"{name}: none more than needed": accepted(lambda c, i=i: c.n > 1 and places_more(c)[i] == 0)
+       for i, name in enumerate(("order", "nodes", "children"))},
+    **{f"{name}: more than needed": accepted(lambda c, i=i: places_more(c)[i] > 1)
+       for i, name in enumerate(("order", "nodes", "children"))},
+    **{f"{name}: one too few": one_short(i)
+       for i, name in enumerate(("order", "nodes", "children"))},
+    **{f"a node too few for {n} validators": one_short(1, lambda c, n=n: c.n == n)
+       for n in (1, 17, 257)},
+    "a child too few, where the fanout is smaller": one_short(2, lambda c: c.fanout < c.n),
+    "a child too few, where the list is smaller": one_short(2, lambda c: c.n < c.fanout),
+    "more places for children than validators": accepted(lambda c: c.given["room_children"] > c.n),
+    "many places more than needed": accepted(lambda c: min(places_more(c)) > 2),
+}
+
+VIEW_REFUSALS = {
+    "no validator": refused(1, lambda c: c.n == 0 < c.fanout <= MAX_FANOUT),
+    "4,097 validators": refused(1, lambda c: c.n == MAX_LIST + 1 > c.own and c.fanout > 0),
+    "no validator and no fanout": refused(1, lambda c: c.fanout == 0),
+    "4,097 validators and no fanout": refused(1, lambda c: c.n == MAX_LIST + 1 and c.fanout == 0),
+    **{f"fanout {fanout}": refused(
+        5, lambda c, fanout=fanout: c.fanout == fanout and c.own < c.n)
+       for fanout in (0, MAX_FANOUT + 1)},
+    "no fanout and an own id past the list": refused(5, lambda c: c.fanout == 0 and c.own >= c.n),
+    "the highest fanout": refused(5, lambda c: c.fanout == TOP),
+    **{f"own id {name}": refused(6, lambda c, own=own: c.own == own(c))
+       for name, own in (("n", lambda c: c.n), ("n + 1", lambda c: c.n + 1),
+                         ("2^64 - 1", lambda c: TOP))},
+    "own id n and no word": refused(6, lambda c: not c.words()),
+    "own id n and little room": refused(6, lambda c: min(places_more(c)) < 0),
+    "no fanout and little room": refused(5, lambda c: min(places_more(c)) < 0),
+    "little room and no word": refused(7, lambda c: not c.words()),
+}
+
+
+def seeds(second):
+    """`second` is the number after the slot."""
+    return {
+        **{f"{name} 2^64 - 1": accepted(lambda c, name=name: c.given[name] == TOP)
+           for name in ("slot", second)},
+        **{f"byte {i} of the {name}": accepted(
+            lambda c, name=name, number=1 << 8 * i: c.given[name] == number)
+           for name in ("slot", second) for i in range(8)},
+        "numbers that differ": accepted(lambda c: 0 != c.given["slot"] != c.given[second] != 0),
+        **{f"{room} bytes": accepted(lambda c, room=room: c.given["room"] == room)
+           for room in (SEED_BYTES, SEED_BYTES + 1, SEED_BYTES + 3)},
+        **{f"{room} bytes": refused(7, lambda c, room=room: c.given["room"] == room)
+           for room in (0, SEED_BYTES - 1)},
+    }
+
+
+def seats(c):
+    return len(c.given["seats"])
+
+
+def relay_at(number, position):
+    """A relay at this of the positions of so many seats."""
+    return accepted(lambda c: (seats(c), c.given["shred"]) == (number, position))
+
+
+RELAYS = {
+    **{f"seat {position} of {number}": relay_at(number, position)
+       for number, position in ((1, 0), (3, 0), (3, 1), (3, 2), (64, 63), (65, 64), (200, 199),
+                                (MAX_SEATS, 0), (MAX_SEATS, MAX_SEATS - 1))},
+    "a seat that others have too": accepted(
+        lambda c: c.given["seats"].count(c.answer["id"]) > 1 < len(set(c.given["seats"]))),
+    "the highest id": accepted(lambda c: c.answer["id"] == TOP),
+    "no seat": refused(6, lambda c: seats(c) == c.given["shred"] == 0),
+    **{f"position {name}": refused(6, lambda c, at=at: seats(c) > 0 and c.given["shred"] == at(c))
+       for name, at in (("k", lambda c: seats(c)), ("k + 1", lambda c: seats(c) + 1),
+                        ("2^64 - 1", lambda c: TOP))},
+    "position k of 1,024": refused(6, lambda c: seats(c) == c.given["shred"] == MAX_SEATS),
+    "1,025 seats": refused(2, lambda c: seats(c) == MAX_SEATS + 1 > c.given["shred"]),
+    "1,025 seats and position k": refused(2, lambda c: seats(c) == c.given["shred"]),
+}
+
 # The limits of each function, by the crate of the program that replays it. The longest lists are
 # asked for once of FA1's two fallbacks.
 LIMITS = {
@@ -573,5 +760,11 @@ LIMITS = {
         "get_num_nodes_and_tree_size": SIZES,
         "begin": {**WEIGHTS, **BEGIN},
         "shuffle": {**WEIGHTS, **SHUFFLE},
+    },
+    "turbine_cases": {
+        "view": {**VIEWS, **VIEW_WORDS, **VIEW_PLACES, **VIEW_REFUSALS},
+        "turbine_seed": seeds("shred"),
+        "rotor_seed": seeds("slice"),
+        "relay": RELAYS,
     },
 }

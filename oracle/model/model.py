@@ -14,6 +14,7 @@ MAX_SEATS = 1_024
 MAX_TRIES = 100_000
 MAX_FANOUT = 4_096
 MAX_COUNT = 2**32 - 1
+SEED_BYTES = 32
 
 
 # ---- Refusals and words ----
@@ -259,6 +260,11 @@ def nodes_needed(stakes):
     return tree_shape(len(stakes))[1]
 
 
+def children_needed(stakes, fanout):
+    """The smaller of fanout and n."""
+    return min(fanout, len(stakes))
+
+
 def check_seats(stakes, k=0, least_k=0, allowed=1, max_samples=1.0, room=None, counts=None,
                 piece_rooms=()):
     """`room` is how many seats the lent buffer takes, where one is lent; `piece_rooms` are the
@@ -281,10 +287,18 @@ def check_shuffle(stakes, room=None, room_nodes=None):
     refuse_if(7, is_short(room_nodes, nodes_needed(stakes)))
 
 
-def check_view(stakes, fanout, own):
+def check_view(stakes, fanout, own, room=None, room_nodes=None, room_children=None):
     refuse_if(1, not 1 <= len(stakes) <= MAX_LIST)
     refuse_if(5, not 1 <= fanout <= MAX_FANOUT)
     refuse_if(6, own >= len(stakes))
+    refuse_if(7, is_short(room, len(stakes)))
+    refuse_if(7, is_short(room_nodes, nodes_needed(stakes)))
+    refuse_if(7, is_short(room_children, children_needed(stakes, fanout)))
+
+
+def check_relay(seats, shred):
+    refuse_if(2, len(seats) > MAX_SEATS)
+    refuse_if(6, shred >= len(seats))
 
 
 def check_counts(stakes, counts, k):
@@ -293,9 +307,9 @@ def check_counts(stakes, counts, k):
 
 # ---- Operations: the fields of a case to the fields of its answer ----
 # Fields of stored cases alone: `cursor` and `cursor2` are the places in `words` and `words2` from
-# which words are read, `room` is how many seats or positions the lent buffer takes, `room_bins`,
-# `room_validators` and `room_stakes` are the places of the buffers for pieces, and `room_nodes` is
-# how many nodes are lent.
+# which words are read, `room` is how many seats, positions or bytes the lent buffer takes,
+# `room_bins`, `room_validators` and `room_stakes` are the places of the buffers for pieces,
+# `room_nodes` is how many nodes are lent, and `room_children` how many places for children.
 
 OPERATIONS = {}
 
@@ -406,26 +420,37 @@ def answer_shuffle(stakes, words, cursor=0, room=None):
 
 
 @operation
-def answer_turbine(stakes, fanout, own, words):
-    check_view(stakes, fanout, own)
+def answer_turbine(stakes, fanout, own, words, cursor=0, room=None, room_nodes=None,
+                   room_children=None):
+    check_view(stakes, fanout, own, room, room_nodes, room_children)
+    words = words.past(cursor)
     root, parent, children = view(shuffle_order(stakes, words), fanout, own)
     return {"root": root, "parent": "none" if parent is None else parent,
             "children": children, "read": words.read}
 
 
 @operation
-def answer_turbine_seed(slot, shred):
+def answer_turbine_seed(slot, shred, room=None):
+    refuse_if(7, is_short(room, SEED_BYTES))
     return {"bytes": list(b"ALPENGLOWTURBINE") + eight_bytes(slot) + eight_bytes(shred)}
 
 
 @operation
-def answer_rotor_seed(slot, slice):
+def answer_rotor_seed(slot, slice, room=None):
+    refuse_if(7, is_short(room, SEED_BYTES))
     return {"bytes": eight_bytes(slot) + eight_bytes(slice) + [0] * 16}
+
+
+@operation
+def answer_relay(seats, shred):
+    """The seat at a shred position."""
+    check_relay(seats, shred)
+    return {"id": seats[shred]}
 
 
 # ---- Cases and answers as lines ----
 
-LIST_FIELDS = {"words", "words2", "weights", "list", "stakes", "counts"}
+LIST_FIELDS = {"words", "words2", "weights", "list", "stakes", "counts", "seats"}
 
 
 def bits_of(number):

@@ -3,9 +3,9 @@
 
 `store.py --check` writes nothing and ends with 1 if a stored list is not what
 would be written. The cases are some of those that compare.py holds against the
-oracle; what they expect is the model's answer. Cases of the samplers and of the
-shuffle get cursors and lent buffers besides, and are picked so that limits.py is
-met. Every list is stored whole, the sums and the order of 4,096 weights too.
+oracle; what they expect is the model's answer. All but those of the draws get
+cursors and lent buffers besides, and are picked so that limits.py is met. Every
+list is stored whole, the sums and the order of 4,096 weights too.
 
 A stored case is a line: the number of the function and its name, its fields,
 then `answer:` with 0 and the fields of the answer, or with the refusal's number.
@@ -23,11 +23,12 @@ from limits import LIMITS, PIECE_ROOMS, TOP, Stored, word_lists
 CRATES = Path(__file__).resolve().parents[2] / "crates"
 COMPARED = 20_000
 DRAWS_OF_EACH, DRAWS_LONGEST = 100, 2_000
-# Of a sampler or the shuffle, and of a function without words.
+# Of a sampler, the shuffle or the views, and of a function without words.
 OF_EACH, OF_SIMPLE = 150, 30
 # A longer line is stored only where a limit needs it.
 LONGEST = {"stake_weighted_cases": 1_500, "decaying_acceptance_cases": 1_500,
-           "partition_cases": 600, "fait_accompli_cases": 600, "weighted_shuffle_cases": 600}
+           "partition_cases": 600, "fait_accompli_cases": 600, "weighted_shuffle_cases": 600,
+           "turbine_cases": 600}
 
 # The functions of each program, in the order of their numbers, and the operation in FORMAT.md that
 # their cases are taken from.
@@ -42,7 +43,11 @@ PROGRAMS = {
                             "stake_weighted_fallback": "fa1_draws"},
     "weighted_shuffle_cases": {"get_num_nodes_and_tree_size": "tree", "begin": "tree",
                                "shuffle": "shuffle"},
+    "turbine_cases": {"view": "turbine", "turbine_seed": "turbine_seed",
+                      "rotor_seed": "rotor_seed", "relay": "relay"},
 }
+
+SEEDS = ("turbine_seed", "rotor_seed")
 
 # Words that stand before the cursor.
 PASSED = [7046029254386353131, 1609587929392839161, 9650029242287828579]
@@ -51,6 +56,8 @@ CURSORS = (0, 1, 3)
 MORE_COUNTS = [model.MAX_COUNT, 5]
 # How many places more than needed the buffers for pieces have.
 MORE_PLACES = ((0, 0, 0), (0, 1, 2), (2, 0, 1), (30, 60, 90))
+# The same of the order, the nodes and the children of a view: at most 280 nodes in all.
+MORE_OF_VIEW = ((0, 0, 0), (1, 0, 0), (0, 1, 2), (3, 7, 60))
 
 
 # ---- Lines ----
@@ -107,6 +114,8 @@ def answer_of(function, operation, given):
         model.check_shuffle(**given)
         tree = model.answer_fields(operation, {"stakes": given["stakes"]})
         return {name: tree[name] for name in ("weight", "sums", "zeros")}
+    if function == "view":
+        return view_answer(operation, given)
     if function == "sample":
         answer = model.answer_fields(operation, {**given, "k": 1})
         return {"id": answer["seats"][0], "read": answer["read"]}
@@ -118,6 +127,16 @@ def answer_of(function, operation, given):
         # By its numerator over 2^53.
         answer = {"numerator": int(model.f64_of(answer["bits"]) * 2**53), "read": answer["read"]}
     return answer
+
+
+def view_answer(operation, given):
+    """With the parent as two numbers, and the whole order."""
+    answer = model.answer_fields(operation, given)
+    words = model.Words(given["words"]).past(given["cursor"])
+    parent = answer.pop("parent")
+    parents = (0, 0) if parent == "none" else (1, parent)
+    return {"root": answer.pop("root"), **dict(zip(("has_parent", "parent"), parents)), **answer,
+            "order": model.shuffle_order(given["stakes"], words)}
 
 
 def answered(function, operation, given):
@@ -146,8 +165,18 @@ def draw_lines(program, function, own):
 
 # ---- Cases of the samplers ----
 
+def view_places(stakes, fanout):
+    """Of a longer list than is taken, the nodes of the longest."""
+    return {"room": len(stakes), "room_nodes": model.nodes_needed(stakes[:model.MAX_LIST]),
+            "room_children": model.children_needed(stakes, fanout)}
+
+
 def places_needed(function, given):
     """How many places of each lent buffer the call needs, but for counts."""
+    if function == "view":
+        return view_places(given["stakes"], given["fanout"])
+    if function in SEEDS:
+        return {"room": model.SEED_BYTES}
     if function in ("begin", "shuffle"):
         nodes = {"room_nodes": model.nodes_needed(given["stakes"])} if function == "begin" else {}
         return {"room": len(given["stakes"]), **nodes}
@@ -172,7 +201,7 @@ def lent(function, given, i):
     given = dict(given)
     for which in word_lists(given):
         given.update(from_cursor(given, which, CURSORS[(i // 3 if which else i) % 3]))
-    more = (i % 4, *MORE_PLACES[i % 4])
+    more = MORE_OF_VIEW[i % 4] if function == "view" else (i % 4, *MORE_PLACES[i % 4])
     given.update({name: places + spare for (name, places), spare in zip(needed.items(), more)})
     if "counts" in given and i % 5 == 0:
         given["counts"] = given["counts"] + MORE_COUNTS[:1 + i % 2]
@@ -186,6 +215,8 @@ def variants(function, given, i):
     if i % 3 == 0:
         needed = places_needed(function, given)
         yield from ({**whole, name: places - 1} for name, places in needed.items() if places > 0)
+        if function in SEEDS:
+            yield {**whole, "room": 0}
     if given.get("counts") and i % 3 == 1:
         yield {**whole, "counts": given["counts"][:-1]}
     if i % 3 == 2:
@@ -235,8 +266,9 @@ def size_cases(own):
         yield answered("get_num_nodes_and_tree_size", None, {"count": len(stakes)})
 
 
-# How the cases of the functions without words are made, but for `begin`.
+# How the cases of some functions without words are made.
 SIMPLE = {"reset": reset_cases, "get_num_nodes_and_tree_size": size_cases}
+FEW = {*SIMPLE, *SEEDS, "relay"}
 
 
 def picked(candidates, limits, of_each, longest):
@@ -265,7 +297,7 @@ def sampler_lines(program, function, own):
     simple = SIMPLE.get(function)
     stored = simple(own) if simple else sampler_cases(function, operation, own)
     candidates = {stored_line(program, function, case): case for case in stored}
-    of_each = OF_SIMPLE if simple else OF_EACH
+    of_each = OF_SIMPLE if function in FEW else OF_EACH
     return picked(candidates, LIMITS[program][function], of_each, LONGEST[program])
 
 
@@ -284,7 +316,7 @@ def lists():
     return texts
 
 
-# The fields of the operations of the samplers and the shuffle, in the order of FORMAT.md.
+# The fields of the operations whose stored cases are compared, in the order of FORMAT.md.
 COMPARED_FIELDS = {
     "iid": ("stakes", "k", "words"),
     "decaying": ("stakes", "k", "max_samples", "allowed", "counts", "words"),
@@ -294,6 +326,10 @@ COMPARED_FIELDS = {
     "fa1_draws": ("stakes", "k", "words"),
     "tree": ("stakes",),
     "shuffle": ("stakes", "words"),
+    "turbine": ("stakes", "fanout", "own", "words"),
+    "turbine_seed": ("slot", "shred"),
+    "rotor_seed": ("slot", "slice"),
+    "relay": ("seats", "shred"),
 }
 
 
@@ -317,7 +353,7 @@ def is_short(function, given):
 
 
 def compared_lines():
-    """The stored cases of the samplers and the shuffle, but for those with a short buffer."""
+    """The stored cases, but for those of the draws and those with a short buffer."""
     lines = []
     for program in LIMITS:
         for line in (CRATES / program / "stdin").read_text().splitlines():

@@ -407,6 +407,22 @@ class Turbine(unittest.TestCase):
             short = [4, 1, 0][:n]
             self.assertEqual(ask("turbine", stakes=[2, 0, 3], fanout=2, own=2, words=short), 12)
 
+    def test_cursor(self):
+        fields = {"stakes": [2, 0, 3], "fanout": 2, "own": 2}
+        whole = ask("turbine", **fields, words=[4, 1, 0])
+        for before in ([], [9], [9, 9]):
+            words, cursor = before + [4, 1, 0], len(before)
+            self.assertEqual(ask("turbine", **fields, words=words, cursor=cursor), whole)
+        for cursor in (1, 3, 4, TOP):
+            self.assertEqual(ask("turbine", **fields, words=[4, 1, 0], cursor=cursor), 12)
+
+    def test_last_parent(self):
+        # Word 0 draws the first that is left, so that the order is that of the list.
+        views = [ask("turbine", stakes=[1] * 6, fanout=3, own=own, words=[0] * 6)
+                 for own in range(6)]
+        self.assertEqual([view["parent"] for view in views], ["none", 0, 0, 0, 1, 1])
+        self.assertEqual([view["children"] for view in views], [[1, 2, 3], [4, 5], [], [], [], []])
+
     def test_views_agree(self):
         rng = random.Random(3)
         for _ in range(100):
@@ -437,6 +453,21 @@ class Seeds(unittest.TestCase):
         answer = ask("rotor_seed", slot=2**56 + 7, slice=9)
         self.assertEqual(bytes(answer["bytes"]),
                          b"\1\0\0\0\0\0\0\7" + b"\0\0\0\0\0\0\0\x09" + b"\0" * 16)
+
+
+class Relays(unittest.TestCase):
+    def test_seat_at_the_position(self):
+        for shred, seat in enumerate([7, 3, 7]):
+            self.assertEqual(ask("relay", seats=[7, 3, 7], shred=shred), {"id": seat})
+
+    def test_2_before_6(self):
+        for number in (1, 1_024):
+            self.assertEqual(ask("relay", seats=[5] * number, shred=number - 1), {"id": 5})
+            for shred in (number, number + 1, TOP):
+                self.assertEqual(ask("relay", seats=[5] * number, shred=shred), 6)
+        for shred in (0, 1_024, 1_025):
+            self.assertEqual(ask("relay", seats=[5] * 1_025, shred=shred), 2)
+        self.assertEqual(ask("relay", seats=[], shred=0), 6)
 
 
 class Refusals(unittest.TestCase):
@@ -561,6 +592,23 @@ class Refusals(unittest.TestCase):
                         model.check_shuffle(stakes, room, room_nodes)
                     self.assertEqual(refused.exception.number, 7)
 
+    def test_7_view(self):
+        for n, fanout, needed in ((1, 1, (1, 1, 1)), (17, 2, (17, 3, 2)), (16, 17, (16, 1, 16)),
+                                  (257, 257, (257, 34, 257)), (4_096, 200, (4_096, 273, 200))):
+            view = {"stakes": [0] * n, "fanout": fanout, "own": 0, "words": [0] * n}
+            for name, places in zip(("room", "room_nodes", "room_children"), needed):
+                for more in (0, 1):
+                    self.assertAccepted(ask("turbine", **view, **{name: places + more}))
+                for few in (0, places - 1):
+                    self.assertEqual(ask("turbine", **view, **{name: few}), 7)
+
+    def test_7_seeds(self):
+        for operation, second in (("turbine_seed", "shred"), ("rotor_seed", "slice")):
+            for room in (32, 33):
+                self.assertAccepted(ask(operation, slot=1, **{second: 2}, room=room))
+            for room in (0, 31):
+                self.assertEqual(ask(operation, slot=1, **{second: 2}, room=room), 7)
+
     def test_7_counts(self):
         for operation in self.DECAYING:
             for counts in ([0, 0], [0, 0, MAX_COUNT]):
@@ -639,10 +687,11 @@ class Refusals(unittest.TestCase):
             self.assertEqual(ask("shuffle", **case), number)
 
     def test_lowest_of_view(self):
-        case = {"stakes": [1], "fanout": 1, "own": 0, "words": [0]}
+        case = {"stakes": [1], "fanout": 1, "own": 0, "words": [0], "room": 1, "room_nodes": 1,
+                "room_children": 1}
         self.assertAccepted(ask("turbine", **case))
-        for number, fault in ((12, {"words": []}), (6, {"own": 1}), (5, {"fanout": 0}),
-                              (1, {"stakes": []})):
+        for number, fault in ((12, {"words": []}), (7, {"room_children": 0}), (6, {"own": 1}),
+                              (5, {"fanout": 0}), (1, {"stakes": []})):
             case.update(fault)
             self.assertEqual(ask("turbine", **case), number)
 
@@ -748,13 +797,16 @@ class Lines(unittest.TestCase):
                  "ok root=2 parent=none children=0,1 read=3"),
                 (f"decaying_one stakes=1 max_samples={model.bits_of(2.0)} allowed=1 counts=1 "
                  f"words=0,{HALF}", "ok seat=0 counts=2 tries=1 read=2"),
-                ("shuffle stakes=- words=-", "ok order=- read=0")):
+                ("shuffle stakes=- words=-", "ok order=- read=0"),
+                ("relay seats=7,3,7 shred=1", "ok id=3"),
+                ("relay seats=- shred=0", "refused 6")):
             self.assertEqual(model.answer(line + "\n"), answer)
 
     def test_all_operations(self):
         self.assertEqual(" ".join(model.OPERATIONS),
                          "below fraction weighted list_shuffle iid partition fa1_bins fa1_draws "
-                         "decaying decaying_one tree shuffle turbine turbine_seed rotor_seed")
+                         "decaying decaying_one tree shuffle turbine turbine_seed rotor_seed "
+                         "relay")
 
 
 class StoredLists(unittest.TestCase):
@@ -770,6 +822,8 @@ class StoredLists(unittest.TestCase):
                                 "stake_weighted_fallback": {1, 2, 7, 8, 9, 12}},
         "weighted_shuffle_cases": {"get_num_nodes_and_tree_size": set(), "begin": {1, 7},
                                    "shuffle": {1, 7, 12}},
+        "turbine_cases": {"view": {1, 5, 6, 7, 12}, "turbine_seed": {7}, "rotor_seed": {7},
+                          "relay": {2, 6}},
     }
 
     def lines(self, program):

@@ -126,16 +126,13 @@ fn judge_shuffle(
 {
     let ran = run::shuffled(weights, list, cursor as usize, order, HELD);
     let same_order = cases::begins(wanted, order);
+    let same = same_order && ran.same_nodes;
     let answer = ran.answer;
     match answer {
         ShuffleAnswer::Accepted(shuffled) => {
-            let same_nodes = ran.clean && ran.kept;
-            cases::accepted(
-                e,
-                same_order && same_nodes && shuffled.words_read as u64 == read,
-            )
+            cases::accepted(e, same && shuffled.words_read as u64 == read)
         }
-        ShuffleAnswer::Refused(number) => cases::refused(e, number, same_order && ran.kept),
+        ShuffleAnswer::Refused(number) => cases::refused(e, number, same),
     }
 }
 

@@ -1,7 +1,9 @@
 //! The fields of a case.
 
 /// The fields that are lists; every other is one number.
-const LISTS: [&str; 6] = ["counts", "list", "stakes", "weights", "words", "words2"];
+const LISTS: [&str; 7] = [
+    "counts", "list", "seats", "stakes", "weights", "words", "words2",
+];
 
 /// The largest committee or number of bins that is run, for memory's sake.
 const MOST_SEATS: u64 = 1 << 20;

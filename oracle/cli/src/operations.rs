@@ -1,6 +1,7 @@
 //! The operations: what each runs, and what it answers.
 
 mod draws;
+mod relays;
 mod samplers;
 mod seeds;
 mod turbine;
@@ -24,7 +25,7 @@ const fn operation(
 }
 
 #[rustfmt::skip]
-const OPERATIONS: [Operation; 15] = [
+const OPERATIONS: [Operation; 16] = [
     operation("below", &["m", "words"], draws::below),
     operation("fraction", &["words"], draws::fraction),
     operation("weighted", &["weights", "words"], draws::weighted),
@@ -40,6 +41,7 @@ const OPERATIONS: [Operation; 15] = [
     operation("turbine", &["stakes", "fanout", "own", "words"], turbine::view),
     operation("turbine_seed", &["slot", "shred"], seeds::turbine),
     operation("rotor_seed", &["slot", "slice"], seeds::rotor),
+    operation("relay", &["seats", "shred"], relays::relay),
 ];
 
 /// The operation of this name.

@@ -267,3 +267,27 @@ fn seeds() {
         ",
     );
 }
+
+#[test]
+fn relays() {
+    check(
+        "
+        relay seats=7,3,7 shred=1
+        ok id=3
+        relay seats=7,3,7 shred=3
+        panic index out of bounds: the len is 3 but the index is 3
+        relay seats=- shred=0
+        panic index out of bounds: the len is 0 but the index is 0
+        ",
+    );
+}
+
+#[test]
+fn relays_of_every_shred_of_a_slice() {
+    let seats: Vec<String> = (100..165).map(|seat| seat.to_string()).collect();
+    let case = |shred| format!("relay seats={} shred={shred}", seats.join(","));
+    for shred in 0..64 {
+        check(&format!("{}\nok id={}", case(shred), 100 + shred));
+    }
+    check(&format!("{}\npanic no shred index", case(64)));
+}

@@ -62,10 +62,10 @@ use Rattle.weighted_shuffle.proofs.shuffle.shuffle.Met as shuffle-thm
 use Rattle.weighted_shuffle_cases.specs.declared.run.Run.{Run}
 use Rattle.weighted_shuffle_cases.proofs.run.Run as R
 use Rattle.weighted_shuffle_cases.proofs.run.Run.Laws as R′
-use Rattle.weighted_shuffle_cases.proofs.run.filled as filled
-use Rattle.weighted_shuffle_cases.proofs.run.filled.Symbol as filled-def
-use Rattle.weighted_shuffle_cases.proofs.run.filled.Symbol.{name as #run·filled}
-use Rattle.weighted_shuffle_cases.proofs.run.filled.Met as filled-thm
+use Rattle.nodes_cases.proofs.filled as filled
+use Rattle.nodes_cases.proofs.filled.Symbol as filled-def
+use Rattle.nodes_cases.proofs.filled.Symbol.{name as #nodes-cases·filled}
+use Rattle.nodes_cases.proofs.filled.Met as filled-thm
 use Rattle.weighted_shuffle_cases.proofs.run.judge as judge
 use Rattle.weighted_shuffle_cases.proofs.run.judge.Symbol as judge-def
 use Rattle.weighted_shuffle_cases.proofs.run.judge.Symbol.{name as #run·judge}
@@ -214,7 +214,7 @@ module _ {M : Type 1} (𝓤 : URA M) (H : Heap 𝓤) (A : Atoms 𝓤) (W : Given
   abbrev typed : (zs : List Node) (v : Val) → Is Nodes zs (v ∷ []) → T (hasTy arr v) × WT v
   typed zs v is = array-typed N.the-row (LL.lawful N.the-type N′.the-laws 𝓤 H A W .typed) 280 zs (v ∷ []) is .0
 
-  module _ (𝓣 : Tables 𝓤 H) (known-filled : Triple 𝓤 (𝓣 .C #run·filled) (Filled 𝓤 H A mem′ run)) (known-shuffle : Triple 𝓤 (𝓣 .C #weighted-shuffle·shuffle) (Shuffle 𝓤 H A mem′ run)) (known-judge : Triple 𝓤 (𝓣 .C #run·judge) (Judge 𝓤 H A mem′ run)) where
+  module _ (𝓣 : Tables 𝓤 H) (known-filled : Triple 𝓤 (𝓣 .C #nodes-cases·filled) (Filled 𝓤 H A mem′ run)) (known-shuffle : Triple 𝓤 (𝓣 .C #weighted-shuffle·shuffle) (Shuffle 𝓤 H A mem′ run)) (known-judge : Triple 𝓤 (𝓣 .C #run·judge) (Judge 𝓤 H A mem′ run)) where
     walk : ent 𝓤 (onEntry 𝓤 H A shuffled.signature (κ₁, (κ₂, (κ₃, tt))) (q₁, (q₂, (q₃, tt))) a at) (WpFn 𝓤 H (𝓣 .C) (𝓣 .Λ) code.function (s₁ ∷ s₂ ∷ vint w64 cursor ∷ s₃ ∷ vint w64 held ∷ []) Post)
     walk =
         qed W (Tokens ∷ Params ∷ []) ∵ enter ! (𝓣 .C) (𝓣 .Λ) code.function (s₁ ∷ s₂ ∷ vint w64 cursor ∷ s₃ ∷ vint w64 held ∷ []) _ $
@@ -263,7 +263,7 @@ module _ {M : Type 1} (𝓤 : URA M) (H : Heap 𝓤) (A : Atoms 𝓤) (W : Given
         free1 ! $ free1 ! $ free1 ! $ free1 ! $ free1 ! $ free1 ! $ free1 ! $ free1 ! $ free1 ! $ free1 ! $ free1 ! $ free1 ! $ free1 ! $ free1 ! $ free1 ! $ free0 ! $ by ! (exits (y .1 .0) r t (is .0) run-is))))))))))))))))))))))))))))))
 
 module _ {M : Type 1} (𝓤 : URA M) (H : Heap 𝓤) (A : Atoms 𝓤) (W : Given 𝓤 H A) (mem′ : Memory → SProp 𝓤) (run : Routine → Fun 𝓤) where
-  shuffled-walks : (𝓣 : Tables 𝓤 H) → Triple 𝓤 (𝓣 .C #run·filled) (Filled 𝓤 H A mem′ run) → Triple 𝓤 (𝓣 .C #weighted-shuffle·shuffle) (Shuffle 𝓤 H A mem′ run) → Triple 𝓤 (𝓣 .C #run·judge) (Judge 𝓤 H A mem′ run)
+  shuffled-walks : (𝓣 : Tables 𝓤 H) → Triple 𝓤 (𝓣 .C #nodes-cases·filled) (Filled 𝓤 H A mem′ run) → Triple 𝓤 (𝓣 .C #weighted-shuffle·shuffle) (Shuffle 𝓤 H A mem′ run) → Triple 𝓤 (𝓣 .C #run·judge) (Judge 𝓤 H A mem′ run)
       → Walks 𝓤 H A shuffled.ended stayed (WpFn 𝓤 H (𝓣 .C) (𝓣 .Λ) code.function) (shuffled.clauses 𝓤 H A mem′ run)
   shuffled-walks 𝓣 k₁ k₂ k₃ = walked 𝓤 H A shuffled.ended stayed (shuffled.clauses 𝓤 H A mem′ run) (WpFn 𝓤 H (𝓣 .C) (𝓣 .Λ) code.function)
       (λ κs. (slice-vals, (slice-vals, (uint-vals w64, (slice-vals, (uint-vals w64, tt)))))) (λ κs. (shr-slice-tells (named 0) (κs .0) u64, (shr-slice-tells (named 1) (κs .1 .0) u64, (uint-tells w64, (mut-slice-tells (named 2) (κs .1 .1 .0) u64, (uint-tells w64, tt))))))
@@ -272,7 +272,7 @@ module _ {M : Type 1} (𝓤 : URA M) (H : Heap 𝓤) (A : Atoms 𝓤) (W : Given
       (a .0 .name) (a .1 .0 .name) (a .1 .1 .1 .0 .name) (a .0 .now) (a .1 .0 .now) (a .1 .1 .0) (a .1 .1 .1 .0 .now) (a .1 .1 .1 .1 .0) (are .0 .0 .1) (are .1 .0 .0 .1) (are .1 .1 .0 .1) (are .1 .1 .1 .0 .0 .1) (are .1 .1 .1 .1 .0 .1) 𝓣 k₁ k₂ k₃))
 
 shuffled-meets : {M : Type 1} (𝓤 : URA M) (H : Heap 𝓤) (A : Atoms 𝓤) (W : Given 𝓤 H A) (mem′ : Memory → SProp 𝓤) (run : Routine → Fun 𝓤) (𝓣 : Tables 𝓤 H)
-    → Triple 𝓤 (𝓣 .C #run·filled) (Filled 𝓤 H A mem′ run) → Triple 𝓤 (𝓣 .C #weighted-shuffle·shuffle) (Shuffle 𝓤 H A mem′ run) → Triple 𝓤 (𝓣 .C #run·judge) (Judge 𝓤 H A mem′ run)
+    → Triple 𝓤 (𝓣 .C #nodes-cases·filled) (Filled 𝓤 H A mem′ run) → Triple 𝓤 (𝓣 .C #weighted-shuffle·shuffle) (Shuffle 𝓤 H A mem′ run) → Triple 𝓤 (𝓣 .C #run·judge) (Judge 𝓤 H A mem′ run)
     → Meets 𝓤 H A shuffled.signature (WpFn 𝓤 H (𝓣 .C) (𝓣 .Λ) code.function) (shuffled.spec 𝓤 H A mem′ run)
 shuffled-meets 𝓤 H A W mem′ run 𝓣 k₁ k₂ k₃ = walk-meets 𝓤 H A shuffled.ended stayed W
     (goes-dropped 𝓤 H A W 3 (shrSliceOf (0 ∷ []) tt (plain (λ _. u64))) yes (λ κs x f. refl), (goes-dropped 𝓤 H A W 3 (shrSliceOf (1 ∷ []) tt (plain (λ _. u64))) yes (λ κs x f. refl), (goes-dropped 𝓤 H A W 3 (plain (λ _. usize)) yes (λ κs x f. refl), (goes-gave-slice 𝓤 H A W 3 2 tt (plain (λ _. u64)), (goes-dropped 𝓤 H A W 3 (plain (λ _. u64)) yes (λ κs x f. refl), tt)))))
@@ -284,6 +284,6 @@ shuffled-spec 𝓤 H 𝓜 𝓖 𝓡 =
     entered 𝓤 H (tripleOf 𝓤 H (𝓖 .A) shuffled.signature (shuffled.spec 𝓤 H (𝓖 .A) (𝓜 .mem) (𝓡 .run)))
     (tables 𝓤 H 𝓜 𝓡 code.env .C) (tables 𝓤 H 𝓜 𝓡 code.env .Λ) #run·shuffled code.function (code.unfolded 𝓤 H 𝓜 𝓡)
     (shuffled-meets 𝓤 H (𝓖 .A) (givenOf 𝓤 H 𝓜 𝓖) (𝓜 .mem) (𝓡 .run) (tablesOf 𝓤 H 𝓜 (tables 𝓤 H 𝓜 𝓡 code.env))
-    (cited 𝓤 H (Filled 𝓤 H (𝓖 .A) (𝓜 .mem) (𝓡 .run)) 𝓜 𝓡 code.env #run·filled filled-def.routine code.calls-weighted-shuffle-cases·run·filled (filled-thm.met 𝓤 H 𝓜 𝓖 𝓡))
+    (cited 𝓤 H (Filled 𝓤 H (𝓖 .A) (𝓜 .mem) (𝓡 .run)) 𝓜 𝓡 code.env #nodes-cases·filled filled-def.routine code.calls-nodes-cases·filled (filled-thm.met 𝓤 H 𝓜 𝓖 𝓡))
     (cited 𝓤 H (Shuffle 𝓤 H (𝓖 .A) (𝓜 .mem) (𝓡 .run)) 𝓜 𝓡 code.env #weighted-shuffle·shuffle shuffle-def.routine code.calls-weighted-shuffle·shuffle·shuffle (shuffle-thm.met 𝓤 H 𝓜 𝓖 𝓡))
     (cited 𝓤 H (Judge 𝓤 H (𝓖 .A) (𝓜 .mem) (𝓡 .run)) 𝓜 𝓡 code.env #run·judge judge-def.routine code.calls-weighted-shuffle-cases·run·judge (judge-thm.met 𝓤 H 𝓜 𝓖 𝓡)))

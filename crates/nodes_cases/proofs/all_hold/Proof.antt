@@ -1,10 +1,10 @@
--- `weighted_shuffle_cases::run::all_hold` is safe and ends.
+-- `nodes_cases::all_hold` is safe and ends.
 use borrow.Author.Needs.{needs}
 use Prim.Native.Nat.{_-_}
 use native.Mathlib.Omega.{arith}
 use borrow.Author.Tests.{ltb-true}
-use Rattle.weighted_shuffle_cases.proofs.run.all_hold.Statement.{statement}
-use Rattle.weighted_shuffle_cases.proofs.run.all_hold.Tie as tie
+use Rattle.nodes_cases.proofs.all_hold.Statement.{statement}
+use Rattle.nodes_cases.proofs.all_hold.Tie as tie
 
 abbrev Inv-loop : tie.InvT-loop
 Inv-loop from to sum nodes i₀ i = Unit {0}
@@ -12,43 +12,33 @@ Inv-loop from to sum nodes i₀ i = Unit {0}
 abbrev μ-loop : tie.MeasureT-loop
 μ-loop from to sum nodes i₀ i = 280 - i
 
--- src/run.rt:34:5
 loop-holds : tie.Need-loop-holds Inv-loop μ-loop
 loop-holds c = search needs
 
--- src/run.rt:35:20
 mul-node : tie.Need-mul-node Inv-loop μ-loop
 mul-node c = search needs
 
--- src/run.rt:35:20
 array-copy-out-node : tie.Need-array-copy-out-node Inv-loop μ-loop
 array-copy-out-node c = search needs
 
--- src/run.rt:36:13
 holds-requires : tie.Need-holds-requires Inv-loop μ-loop
 holds-requires c κs = search needs
 
--- src/run.rt:37:13
 returns : tie.Need-returns Inv-loop μ-loop
 returns c = search needs
 
--- src/run.rt:39:9
 add-i : tie.Need-add-i Inv-loop μ-loop
 add-i c = search needs
 
--- src/run.rt:34:5
 loop-less : tie.Need-loop-less Inv-loop μ-loop
 loop-less c = let t = c .before .before .before in omega (arith, ltb-true (t .before .before .loop .i) 280 (t .if1 .taken))
 
--- src/run.rt:34:5
 loop-again : tie.Need-loop-again Inv-loop μ-loop
 loop-again c = search needs
 
--- src/run.rt:32:1
 returns-2 : tie.Need-returns-2 Inv-loop μ-loop
 returns-2 c = search needs
 
--- src/run.rt:32:1
 returns-3 : tie.Need-returns-3 Inv-loop μ-loop
 returns-3 c = search needs
 
