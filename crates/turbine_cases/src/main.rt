@@ -3,10 +3,12 @@ use cases::Expected;
 use cases::Verdict;
 use libc::STDOUT_FILENO;
 use rotor::RelayAnswer;
+use rotor::TOTAL_SHREDS;
 use seeds::SeedAnswer;
 use turbine::answers::Parent;
 use turbine::answers::View;
 use turbine::answers::ViewAnswer;
+use turbine::turbine_tree::DEFAULT_FANOUT;
 use types::ValidatorIndex;
 ghost use Prim.Native.Nat.{_≤_};
 ghost use mathlib.Core.Path.{_≡_};
@@ -18,6 +20,12 @@ mod run;
 const HELD: u64 = 0xffff_ffff_ffff_ffff;
 
 const HELD_BYTE: u8 = 165;
+
+// The constants are the Rust's. Nothing calls this: the check proves it.
+fn constants()
+    ensures { λ _. do ⌜ (← ⟦DEFAULT_FANOUT⟧ .entry) ≡ 200 ⌝ }
+    ensures { λ _. do ⌜ (← ⟦TOTAL_SHREDS⟧ .entry) ≡ 64 ⌝ }
+{}
 
 // How many nodes are lent: as many as are asked for, or all.
 fn node_places(asked: u64) -> usize
