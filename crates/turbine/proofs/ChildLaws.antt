@@ -2,7 +2,7 @@
 use Prim.Native.Nat.{ℕ, _+_, _-_, _*_, _≤_, _<_, min}
 use mathlib.Core.Path.{_≡_, sym, ap, _∙_}
 use mathlib.Core.Logic.{_⊎_, ⊎-elim}
-use mathlib.Core.List.{List, []}
+use mathlib.Core.List.{List, [], _++_}
 use native.Mathlib.Nat.{mul-le-mul}
 use native.Mathlib.Omega.{arith}
 use lib.Seq.{take-all}
@@ -24,19 +24,30 @@ take-min k xs = ⊎-elim some all (split k (length xs))
     all : length xs ≤ k → take (min k (length xs)) xs ≡ take k xs
     all h = take-all (min k (length xs)) xs (omega arith) ∙ sym (take-all k xs h)
 
-module _ (fanout : ℕ) (order : List ℕ) (p : ℕ) where
-  abbrev first : ℕ
-  first = p * fanout + 1
+-- first is the place of the first child
+module _ (fanout : ℕ) (order : List ℕ) (p first : ℕ) (e : first ≡ p * fanout + 1) where
+  children-at : childrenAt fanout order p ≡ take fanout (drop first order)
+  children-at = ap (λ (f : ℕ). take fanout (drop f order)) (sym e)
 
   -- past the end there are no children
   pub children-none : length order ≤ first → childrenAt fanout order p ≡ []
-  children-none h = ap (take fanout) (drop-of-length-le order {i = first} h) ∙ take-all {A = ℕ} fanout [] (omega arith)
+  children-none h = children-at ∙ ap (take fanout) (drop-of-length-le order {i = first} h) ∙ take-all {A = ℕ} fanout [] (omega arith)
 
   -- elsewhere they are that many
-  pub children-long : length (childrenAt fanout order p) ≡ min fanout (length order - first)
-  children-long = length-take fanout (drop first order) ∙ ap (min fanout) (length-drop first order)
+  children-long : length (childrenAt fanout order p) ≡ min fanout (length order - first)
+  children-long = omega (arith, ap length children-at, length-take fanout (drop first order), length-drop first order)
 
-  pub children-part : (end : ℕ) → end ≡ first + min fanout (length order - first) → take (end - first) (drop first order) ≡ childrenAt fanout order p
-  children-part end e =
-      let k : end - first ≡ min fanout (length (drop first order)) = omega (arith, e, length-drop first order) in
-      ap (λ (m : ℕ). take m (drop first order)) k ∙ take-min fanout (drop first order)
+  children-part : (count : ℕ) → count ≡ min fanout (length order - first) → take (first + count - first) (drop first order) ≡ childrenAt fanout order p
+  children-part count c =
+      let k : first + count - first ≡ min fanout (length (drop first order)) = omega (arith, c, length-drop first order) in
+      ap (λ (m : ℕ). take m (drop first order)) k ∙ take-min fanout (drop first order) ∙ sym children-at
+
+-- a buffer to which so many are stored from the place of the first child on
+pub children-stored : (fanout : ℕ) (order : List ℕ) (p : ℕ) (held : List ℕ) {stored : List ℕ} {first count : ℕ} → first < length order →
+    count ≡ min fanout (length order - first) → first ≡ p * fanout + 1 →
+    stored ≡ take (first + count - first) (drop first order) ++ drop (length (take (first + count - first) (drop first order))) held →
+    (count ≡ length (childrenAt fanout order p)) × (stored ≡ childrenAt fanout order p ++ drop (length (childrenAt fanout order p)) held)
+children-stored fanout order p held {first = first} {count = count} h c e s = (
+  omega (arith, c, children-long fanout order p first e),
+  s ∙ ap (λ (xs : List ℕ). xs ++ drop (length xs) held) (children-part fanout order p first e count c),
+)

@@ -1,4 +1,5 @@
 -- `turbine::checks::buffer_refusal` meets its contract.
+use native.Mathlib.Omega.{arith}
 use borrow.Author.Needs.{needs}
 use borrow.Author.Tests.{lt-ltb, le-ltb}
 use Rattle.turbine.proofs.checks.buffer_refusal.Statement.{statement}
@@ -23,7 +24,7 @@ returns-3 c =
     let z = y .before .before .before in
     let a = z .before .args in
     let sized = y .before .before .get-num-nodes-and-tree-size in
-    rw (le-ltb (a .order) (a .n) (z .if1 .left), ← sized .ensures, le-ltb (a .nodes) (sized .result .«tree_size») (y .if2 .left), lt-ltb (a .children) (a .most) (c .if3 .taken))
+    rw (le-ltb (a .order) (a .n) (z .if1 .left), ← sized .ensures, le-ltb (a .nodes) (sized .result .«tree_size») (y .if2 .left), lt-ltb (a .children) (a .most) (omega (arith, c .if3 .taken)))
 
 returns-4 : tie.Need-returns-4
 returns-4 c =
@@ -31,7 +32,7 @@ returns-4 c =
     let z = y .before .before .before in
     let a = z .before .args in
     let sized = y .before .before .get-num-nodes-and-tree-size in
-    rw (le-ltb (a .order) (a .n) (z .if1 .left), ← sized .ensures, le-ltb (a .nodes) (sized .result .«tree_size») (y .if2 .left), le-ltb (a .children) (a .most) (c .if3 .left))
+    rw (le-ltb (a .order) (a .n) (z .if1 .left), ← sized .ensures, le-ltb (a .nodes) (sized .result .«tree_size») (y .if2 .left), le-ltb (a .children) (a .most) (omega (arith, c .if3 .left)))
 
 pub buffer-refusal-spec : {M : Type 1} → statement M
 buffer-refusal-spec = tie.close (tie.spec returns get-num-nodes-and-tree-size-requires returns-2 returns-3 returns-4)

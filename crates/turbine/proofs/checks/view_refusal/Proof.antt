@@ -1,14 +1,18 @@
 -- `turbine::checks::view_refusal` meets its contract.
-use Prim.Native.Nat.{ℕ}
-use mathlib.Core.Path.{_≡_, ap, _∙_}
-use Rattle.refusals.specs.Refusals.{notBelow}
+use Prim.Native.Nat.{_≤_, _<_}
+use mathlib.Core.Path.{sym, _∙_}
+use native.Mathlib.Omega.{arith}
+use borrow.Author.Tests.{leb-true, leb-false, le-leb, lt-leb}
 use borrow.Author.Needs.{needs}
 use Rattle.turbine.proofs.checks.view_refusal.Statement.{statement}
 use Rattle.turbine.proofs.checks.view_refusal.Tie as tie
 
--- the id is the number inside
-number : (c : tie.After-bad-index) → c .bad-index .result ≡ notBelow (c .before .before .before .before .before .before .args .own-id .0) (c .before .before .before .before .before .before .args .n) .applies
-number c = c .bad-index .ensures ∙ ap (λ (i : ℕ). notBelow i (c .before .before .before .before .before .before .args .n) .applies) (c .before .inner .ensures)
+-- what the third test tells of the own id
+own-past : (c : tie.Then3) → c .before .before .before .before .before .before .before .args .n ≤ c .before .before .before .before .before .before .before .args .own-id .0
+own-past c = omega (arith, leb-true _ (c .before .before .inner .result) (sym (c .before .bad-index .ensures) ∙ c .if3 .taken), c .before .before .inner .ensures)
+
+own-below : (c : tie.Else3) → c .before .before .before .before .before .before .before .args .own-id .0 < c .before .before .before .before .before .before .before .args .n
+own-below c = omega (arith, leb-false _ (c .before .before .inner .result) (sym (c .before .bad-index .ensures) ∙ c .if3 .left), c .before .before .inner .ensures)
 
 bad-list-length-requires : tie.Need-bad-list-length-requires
 bad-list-length-requires c κs = search needs
@@ -34,7 +38,8 @@ returns-3 : tie.Need-returns-3
 returns-3 c =
     let f = c .before .before .before in
     let l = f .before .before in
-    rw (← l .before .bad-list-length .ensures, l .if1 .left, ← f .before .bad-fanout .ensures, f .if2 .left, ← number (c .before), c .if3 .taken)
+    let a = l .before .before .args in
+    rw (← l .before .bad-list-length .ensures, l .if1 .left, ← f .before .bad-fanout .ensures, f .if2 .left, le-leb (a .n) (a .own-id .0) (own-past c))
 
 smaller-requires : tie.Need-smaller-requires
 smaller-requires c κs = search needs
@@ -47,7 +52,8 @@ returns-4 c =
     let i = c .before .before in
     let f = i .before .before .before in
     let l = f .before .before in
-    rw (← l .before .bad-list-length .ensures, l .if1 .left, ← f .before .bad-fanout .ensures, f .if2 .left, ← number (i .before), i .if3 .left, ← c .before .smaller .ensures)
+    let a = l .before .before .args in
+    rw (← l .before .bad-list-length .ensures, l .if1 .left, ← f .before .bad-fanout .ensures, f .if2 .left, lt-leb (a .n) (a .own-id .0) (own-below i), ← c .before .smaller .ensures)
     (c .buffer-refusal .ensures)
 
 pub view-refusal-spec : {M : Type 1} → statement M

@@ -10,7 +10,7 @@ use Rattle.turbine.proofs.neighborhood.parent_at.Statement.{statement}
 use Rattle.turbine.proofs.neighborhood.parent_at.Tie as tie
 
 returns : tie.Need-returns
-returns c = rw (eq-eqb (c .before .before .args .p) 0 (c .if1 .taken))
+returns c = rw (eq-eqb (c .before .before .args .p) 0 (omega (arith, c .if1 .taken)))
 
 sub-new : tie.Need-sub-new
 sub-new c = search needs

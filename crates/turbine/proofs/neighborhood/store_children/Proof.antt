@@ -6,7 +6,7 @@ use native.Mathlib.Omega.{arith}
 use lib.ListN.{length, drop}
 use denote.Ref.{now}
 use borrow.Author.Needs.{needs}
-use Rattle.turbine.proofs.ChildLaws.{first-le, children-none, children-long, children-part}
+use Rattle.turbine.proofs.ChildLaws.{first-le, children-none, children-stored}
 use Rattle.turbine.proofs.neighborhood.store_children.Statement.{statement}
 use Rattle.turbine.proofs.neighborhood.store_children.Tie as tie
 
@@ -23,7 +23,7 @@ add-first c =
 returns : tie.Need-returns
 returns c =
     let a = c .before .before .before .args in
-    rw (children-none (a .fanout) (now (a .order)) (a .p) (c .if1 .taken)) (refl, refl)
+    rw (children-none (a .fanout) (now (a .order)) (a .p) _ (omega arith) (c .if1 .taken)) (refl, refl)
 
 sub-left : tie.Need-sub-left
 sub-left c = search needs
@@ -56,10 +56,7 @@ returns-2 : tie.Need-returns-2
 returns-2 c =
     let s = c .before .before .before .before .before in
     let a = s .before .before .before .before .args in
-    let part = children-part (a .fanout) (now (a .order)) (a .p) _ (ap (λ (k : ℕ). a .p * a .fanout + 1 + k) (s .smaller .ensures)) in (
-      s .smaller .ensures ∙ sym (children-long (a .fanout) (now (a .order)) (a .p)),
-      c .before .before .store .ensures ∙ ap (λ (xs : List ℕ). xs ++ drop (length xs) (now (a .children))) part,
-    )
+    children-stored (a .fanout) (now (a .order)) (a .p) (now (a .children)) (s .before .if1 .left) (s .smaller .ensures) (omega arith) (c .before .before .store .ensures)
 
 pub store-children-spec : {M : Type 1} → statement M
 store-children-spec =
