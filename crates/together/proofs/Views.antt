@@ -1,14 +1,11 @@
 -- Demand 3 on views.
 use Prim.Native.Nat.{ℕ, _-_, _/_, _≤_, _<_}
 use mathlib.Core.Path.{_≡_, refl, sym, ap, subst, _∙_}
-use mathlib.Core.Logic.{_⊎_, inl, inr, ⊎-elim}
-use mathlib.Core.Bool.{Bool, true, false}
-use mathlib.Core.List.{List, [], _∷_, _++_}
+use mathlib.Core.Logic.{_⊎_, ⊎-elim}
+use mathlib.Core.List.{List}
 use native.Mathlib.Omega.{arith}
-use lib.Dec.{eqb, ltb}
 use lib.ListN.{length, getD, take, drop}
 use lib.Seq.{take-at}
-use borrow.Author.Tests.{eqb-true, eqb-false, ltb-true, ltb-false}
 use Rattle.laws.specs.Counts.{count}
 use Rattle.laws.specs.Orders.{Permutation, idsFrom}
 use Rattle.laws.proofs.Numbers.{split}
@@ -17,8 +14,7 @@ use Rattle.words.specs.Outcome.{Outcome, refused, accepted, giving, bufferAfter
 use Rattle.words.proofs.Outcomes.{went, unrefused}
 use Rattle.weighted_shuffle.specs.Order.{order}
 use Rattle.weighted_shuffle.proofs.WholeLaws.{orders-whole}
-use Rattle.turbine.specs.declared.answers.Parent.{Parent}
-use Rattle.turbine.specs.declared.answers.Parent.the-variants.{None, Some}
+use Rattle.turbine.specs.declared.answers.Parent.the-variants.{Some}
 use Rattle.turbine.specs.declared.answers.View.{View}
 use Rattle.turbine.specs.declared.answers.ViewAnswer.the-variants.{Accepted}
 use Rattle.turbine.specs.declared.turbine_tree.TurbineTree.{TurbineTree}
@@ -26,9 +22,9 @@ use Rattle.turbine.specs.View.{positionOf, rootOf, parentAt, childrenAt, Neighb
 use Rattle.turbine.specs.Calls.{Lent, viewChecks, viewCall}
 use Rattle.turbine.specs.Answers.{treeOf, viewAnswer}
 use Rattle.turbine.proofs.CallLaws.{admitted}
-use Rattle.turbine.proofs.TreeLaws.{Below, idOf, place-lt, id-at, id-lt, place-of, lists, listed, names-none, names-some, names, named, parent-before}
+use Rattle.turbine.proofs.TreeLaws.{idOf, place-lt, id-at, id-lt, place-of, lists, listed, names-none, names-some, names, named, parent-before}
 use Rattle.turbine.proofs.TreeLaws as tree
-use Rattle.together.specs.Views.{positions, root, Viewed, parentOf, childrenOf, Names, ChildOfOne, Consistent, ViewsConsistent}
+use Rattle.together.specs.Views.{positions, root, Viewed, parentOf, childrenOf, Names, ChildOfOne, ViewsConsistent}
 
 module _ (stakes : List ℕ) (fanout : ℕ) (list : List ℕ) (cursor : ℕ) where
   abbrev n : ℕ

@@ -12,7 +12,7 @@ use Rattle.refusals.specs.declared.Refusal.{Refusal}
 use Rattle.refusals.specs.declared.Refusal.the-variants.{None, Number}
 use Rattle.refusals.specs.Refusals.{Check, lowest, listLength, fanoutLimit, notBelow, shortBuffer}
 use Rattle.refusals.proofs.CheckLaws.{passed, within, listed}
-use Rattle.words.specs.Outcome.{Outcome, refused, accepted, unless, giving, bufferAfter}
+use Rattle.words.specs.Outcome.{Outcome, refused, accepted, giving, bufferAfter}
 use Rattle.words.proofs.Outcomes.{goes-on, turned-down}
 use Rattle.nodes.specs.declared.node.Node.{Node}
 use Rattle.tree.specs.Sizes.{sizes}

@@ -15,7 +15,7 @@ pub first-le : (p fanout : ℕ) → p ≤ 4096 → fanout ≤ 4096 → p * fanou
 first-le p fanout h g = mul-le-mul {n₁ = p} {m₁ = fanout} {n₂ = 4096} {m₂ = 4096} h g
 
 -- no more can be taken than there are
-pub take-min : (k : ℕ) (xs : List ℕ) → take (min k (length xs)) xs ≡ take k xs
+take-min : (k : ℕ) (xs : List ℕ) → take (min k (length xs)) xs ≡ take k xs
 take-min k xs = ⊎-elim some all (split k (length xs))
   where
     some : k < length xs → take (min k (length xs)) xs ≡ take k xs

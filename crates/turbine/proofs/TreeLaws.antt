@@ -1,13 +1,13 @@
 -- Laws of parents and children by order position, in any order of the ids.
 use Prim.Native.Nat.{ℕ, suc, _+_, _-_, _*_, _/_, _≤_, _<_}
 use mathlib.Core.Path.{_≡_, refl, sym, ap, _∙_}
-use mathlib.Core.Logic.{_⊎_, inl, inr, ⊎-elim}
+use mathlib.Core.Logic.{_⊎_, ⊎-elim}
 use mathlib.Core.Bool.{Bool, true, false}
 use mathlib.Core.List.{List}
 use native.Mathlib.Nat.{suc-mul, le-mul-of-pos-right, le-div-iff-mul-le, div-lt-iff-lt-mul, div-le-self}
 use native.Mathlib.Omega.{arith}
 use lib.Dec.{eqb}
-use lib.ListN.{length, getD}
+use lib.ListN.{getD}
 use borrow.Author.Tests.{eqb-true, eqb-false, eq-eqb, ne-eqb}
 use Rattle.laws.specs.Counts.{count}
 use Rattle.laws.specs.Orders.{Permutation, idsFrom}

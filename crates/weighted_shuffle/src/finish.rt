@@ -9,7 +9,7 @@ use words::Words;
 ghost use Prim.Native.Nat.{_≤_};
 ghost use mathlib.Core.Path.{_≡_};
 ghost use lib.ListN.{length, take, drop};
-ghost use Rattle.words.specs.Outcome.{leftAfter, bufferAfter};
+ghost use Rattle.words.specs.Outcome.{bufferAfter};
 ghost use Rattle.words.specs.Stream.{stream};
 ghost use Rattle.weighted_shuffle.specs.Answers.{shuffleAnswer, zerosSays};
 ghost use Rattle.weighted_shuffle.specs.Progress.{zerosDrawn, ending, NoMore, backOf};
