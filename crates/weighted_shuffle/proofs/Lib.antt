@@ -10,3 +10,4 @@ pub mod WholeLaws
 pub mod ShuffleLaws
 pub mod DrawCalls
 pub mod ShuffleCalls
+pub mod EntryCalls

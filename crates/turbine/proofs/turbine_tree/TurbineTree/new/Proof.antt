@@ -1,4 +1,4 @@
--- `turbine::turbine_tree::TurbineTree::new` meets its contract: a walk of its MIR, by hand. The input is checked first; where it is turned down the call returns with every buffer as it was, else the order is shuffled and the view taken from it. The calls are steps of `ViewCalls.antt`, and what they ask and give is in `CallLaws.antt`.
+-- `turbine::turbine_tree::TurbineTree::new` meets its contract: a walk of its MIR, by hand. The input is checked first; where it is turned down the call returns with every buffer as it was, else the order is shuffled and the view taken from it. The calls are steps of `ViewCalls.antt` and of `EntryCalls.antt` of `weighted_shuffle`, and what they ask and give is in `CallLaws.antt`.
 -- Assumes nothing.
 use mathlib.Core.Path.{_≡_, refl}
 use mathlib.Core.Bool.{Bool, true, false, not}
@@ -54,6 +54,8 @@ use Rattle.weighted_shuffle.specs.Calls.{shuffled, nodesAfter}
 use Rattle.weighted_shuffle.specs.Answers.{shuffleAnswer}
 use Rattle.weighted_shuffle.proofs.answers.ShuffleAnswer as S
 use Rattle.weighted_shuffle.proofs.answers.ShuffleAnswer.Laws as S′
+use Rattle.nodes.proofs.Says.{says-four}
+use Rattle.weighted_shuffle.proofs.EntryCalls.{Shuffle, calls-shuffle}
 use Rattle.weighted_shuffle.proofs.shuffle.shuffle.Symbol as shuffle-def
 use Rattle.weighted_shuffle.proofs.shuffle.shuffle.Symbol.{name as #weighted-shuffle·shuffle}
 use Rattle.weighted_shuffle.proofs.shuffle.shuffle.Met as shuffle-thm
@@ -61,7 +63,7 @@ use Rattle.turbine.specs.declared.answers.ViewAnswer.{ViewAnswer}
 use Rattle.turbine.specs.declared.answers.ViewAnswer.the-variants.{Refused}
 use Rattle.turbine.specs.Calls.{viewChecks, numberOf}
 use Rattle.turbine.proofs.CallLaws.{Ended, turned, goes-on-asks, went-on}
-use Rattle.turbine.proofs.ViewCalls.{ViewRefusal, Shuffle, ViewOf, says-four, calls-view-refusal, calls-shuffle, calls-view-of}
+use Rattle.turbine.proofs.ViewCalls.{ViewRefusal, ViewOf, calls-view-refusal, calls-view-of}
 use Rattle.turbine.proofs.answers.ViewAnswer as R
 use Rattle.turbine.proofs.answers.ViewAnswer.Laws as R′
 use Rattle.turbine.proofs.checks.view_refusal.Symbol as view-refusal-def
