@@ -1,6 +1,6 @@
--- `weighted_shuffle_cases::run::shuffled` is safe and ends: a walk of its MIR, by hand. The local array is lent to `shuffle` for a lifetime made for the call, and gathered again at the list that it left; the caller's slices are passed on at their own lifetimes.
+-- `weighted_shuffle_cases::run::shuffled` is safe and ends: a walk of its MIR, by hand. The local array is lent as a slice for a lifetime of its own, and gathered again at the list that `shuffle` left in it; the call of `shuffle` is a step of `EntryCalls.antt` of `weighted_shuffle`.
 -- Assumes nothing.
-use mathlib.Core.Path.{_≡_, refl, sym, subst, _∙_}
+use mathlib.Core.Path.{_≡_, refl}
 use Prim.Native.Nat.{ℕ, _<_, _^_}
 use mathlib.Core.List.{List, [], _∷_, map}
 use lib.ListN.{length, replicate}
@@ -17,12 +17,12 @@ use prog.Wp.{Heap, WpFn, Tables}
 use ghost.Atoms.{Atoms}
 use contract.Monad.{Fun}
 use contract.Running.{givenOf, tables, tablesOf}
-use types.Kit.{Given, Item, ‵, raw, _⊛_, some, given, later, mean, ⋆, _$_, _∵_, !, qed, by, move, keep, drop, use0, use1, use2, use3, rewrite, split, join, pick, learn, fsplit, fjoin, feqL, feqI, suffices, frame, await, updating, now as at-once, show, check, done}
+use types.Kit.{Given, Item, ‵, raw, _⊛_, some, later, ⋆, _$_, _∵_, !, qed, by, move, keep, drop, use0, use1, use2, use3, split, join, pick, fsplit, fjoin, feqI, suffices, frame, await, done}
 use types.Part.{agg, rep, whole, sub, look-in}
 use types.Run.{look, init, forget, stop, hop, fld, from, load, lit, of-opd, addr, and-then, no-more, assigns, land, returns, enter, alloc1, alloc0, params1, pass1, pass0, free1, free0}
 use types.SemTy.{cells, Arr}
 use types.Share.{arr-parts}
-use types.Tokens.{lft-new, lft-end}
+use types.Tokens.{lft-new, lft-end, name-done}
 use sound.WpLaws.{fmOf, WpFn-mono}
 use denote.RattleType.{RattleType, owns}
 use denote.Laws.{Is, shows}
@@ -31,7 +31,7 @@ use denote.Array.{Array, arrayVal, array-vals, array-typed, array-makes, array-r
 use denote.Plain.{uint-vals, uint-tells, uint-makes}
 use denote.Builtin.{u64, usize}
 use denote.Ref.{RefT}
-use denote.Slice.{sliceVal, MutSlice, ShrSlice, Room, finally, slice-vals, mut-slice-tells, shr-slice-tells}
+use denote.Slice.{sliceVal, MutSlice, ShrSlice, Room, finally, res-finally, slice-vals, mut-slice-tells, shr-slice-tells}
 use denote.Lend.{Held, lends-slice, slice-back}
 use denote.Index.{row, whole-out, whole-in}
 use denote.Signature.{plain, shrSliceOf}
@@ -39,23 +39,23 @@ use denote.Steps.{owned, peeks, facts, nothing}
 use denote.Struct.Laws as LL
 use denote.Enum.Laws as EL
 use denote.Triple.Call.{calls-at}
-use denote.Triple.Clauses.{ensured, lasts, atExit}
+use denote.Triple.Clauses.{ensured}
 use denote.Triple.Entry.{onEntry}
 use denote.Triple.Spec.{Meets, tripleOf}
 use denote.Triple.Statement.{Contract, Triple}
 use denote.Triple.Table.{entered, cited}
-use denote.Triple.Walked.{Stays, stay-dropped, gave-slice, walkOf, goes-dropped, goes-gave-slice, Walks, ends-at, walked, walk-meets}
+use denote.Triple.Walked.{Stays, stay-dropped, stay-slice, walkOf, goes-dropped, goes-slice, Walks, ends-at, walked, walk-meets}
 use denote.Exit.{yes}
 use Rattle.nodes.specs.declared.node.Node.{Node}
 use Rattle.nodes.proofs.node.Node as N
 use Rattle.nodes.proofs.node.Node.Laws as N′
-use Rattle.nodes.proofs.CallLent.{at as ref-at, Owns}
+use Rattle.nodes.proofs.CallLent.{Owns}
 use Rattle.nodes.proofs.RunCalls.{node-owned}
 use Rattle.nodes.proofs.Spread.{spreads, gathers}
 use Rattle.weighted_shuffle.specs.declared.answers.ShuffleAnswer.{ShuffleAnswer}
 use Rattle.weighted_shuffle.proofs.answers.ShuffleAnswer as S
 use Rattle.weighted_shuffle.proofs.answers.ShuffleAnswer.Laws as S′
-use Rattle.weighted_shuffle.proofs.shuffle.shuffle as shuffle
+use Rattle.weighted_shuffle.proofs.EntryCalls.{Shuffle, calls-shuffle}
 use Rattle.weighted_shuffle.proofs.shuffle.shuffle.Symbol as shuffle-def
 use Rattle.weighted_shuffle.proofs.shuffle.shuffle.Symbol.{name as #weighted-shuffle·shuffle}
 use Rattle.weighted_shuffle.proofs.shuffle.shuffle.Met as shuffle-thm
@@ -76,7 +76,7 @@ use Rattle.weighted_shuffle_cases.proofs.run.shuffled.Statement as stat
 use Rattle.weighted_shuffle_cases.proofs.run.shuffled.Code as code
 
 abbrev stayed : Stays (shuffled.ended .signature .params) (shuffled.ended .kept)
-stayed = (stay-dropped (shrSliceOf (0 ∷ []) tt (plain (λ _. u64))) yes, (stay-dropped (shrSliceOf (1 ∷ []) tt (plain (λ _. u64))) yes, (stay-dropped (plain (λ _. usize)) yes, (gave-slice (2 ∷ []) tt (plain (λ _. u64)), (stay-dropped (plain (λ _. u64)) yes, tt)))))
+stayed = (stay-dropped (shrSliceOf (0 ∷ []) tt (plain (λ _. u64))) yes, (stay-dropped (shrSliceOf (1 ∷ []) tt (plain (λ _. u64))) yes, (stay-dropped (plain (λ _. usize)) yes, (stay-slice (2 ∷ []) tt (plain (λ _. u64)), (stay-dropped (plain (λ _. u64)) yes, tt)))))
 
 abbrev Nodes : RattleType
 Nodes = Array N.the-row 280
@@ -93,13 +93,10 @@ vals zs = array-vals (λ (n : Node). val n ∷ []) zs
 abbrev whole-of : List Node → Val
 whole-of zs = arrayVal (map (λ n. val n) zs)
 
--- the contracts of the three callees
+-- the contracts of the callees `filled` and `judge`
 module _ {M : Type 1} (𝓤 : URA M) (H : Heap 𝓤) (A : Atoms 𝓤) (mem′ : Memory → SProp 𝓤) (run : Routine → Fun 𝓤) where
   abbrev Filled : Contract 𝓤
   Filled = tripleOf 𝓤 H A filled.signature (filled.spec 𝓤 H A mem′ run)
-
-  abbrev Shuffle : Contract 𝓤
-  Shuffle = tripleOf 𝓤 H A shuffle.signature (shuffle.spec 𝓤 H A mem′ run)
 
   abbrev Judge : Contract 𝓤
   Judge = tripleOf 𝓤 H A judge.signature (judge.spec 𝓤 H A mem′ run)
@@ -115,20 +112,11 @@ module _ {M : Type 1} (𝓤 : URA M) (H : Heap 𝓤) (A : Atoms 𝓤) (W : Given
   abbrev s₃ : Val
   s₃ = sliceVal (b₃, o₃) (length order)
 
-  abbrev ref₁ : RefT (List ℕ)
-  ref₁ = record { ptr = (b₁, o₁); name = γ₁; now = weights }
-
-  abbrev ref₂ : RefT (List ℕ)
-  ref₂ = record { ptr = (b₂, o₂); name = γ₂; now = list }
-
-  abbrev ref₃ : RefT (List ℕ)
-  ref₃ = record { ptr = (b₃, o₃); name = γ₃; now = order }
-
   abbrev Arg : Type 0
   Arg = RefT (List ℕ) × (RefT (List ℕ) × (ℕ × (RefT (List ℕ) × (ℕ × Unit {0}))))
 
   abbrev a : Arg
-  a = (ref₁, (ref₂, (cursor, (ref₃, (held, tt)))))
+  a = (record { ptr = (b₁, o₁); name = γ₁; now = weights }, (record { ptr = (b₂, o₂); name = γ₂; now = list }, (cursor, (record { ptr = (b₃, o₃); name = γ₃; now = order }, (held, tt)))))
 
   abbrev at : List Val × (List Val × (List Val × (List Val × (List Val × Unit {0}))))
   at = (s₁ ∷ [], (s₂ ∷ [], (vint w64 cursor ∷ [], (s₃ ∷ [], (vint w64 held ∷ [], tt)))))
@@ -136,18 +124,17 @@ module _ {M : Type 1} (𝓤 : URA M) (H : Heap 𝓤) (A : Atoms 𝓤) (W : Given
   abbrev Post : Val → SProp 𝓤
   Post = walkOf 𝓤 H A shuffled.ended stayed (shuffled.clauses 𝓤 H A mem′ run) .post (((κ₁, (κ₂, (κ₃, tt))), (q₁, (q₂, (q₃, tt))), tt, a, at), tt)
 
-  -- the caller's tokens, and what the parameters own
-  abbrev Tokens : Item 𝓤
-  Tokens = ‵ (flft κ₁ q₁) ⊛ (‵ (flft κ₂ q₂) ⊛ (‵ (flft κ₃ q₃) ⊛ ‵ ftrue))
+  -- what order owns, at the list ord
+  abbrev Order : List ℕ → Item 𝓤
+  Order ord = Owns 𝓤 u64 κ₃ γ₃ b₃ o₃ ord (length order)
 
-  abbrev Params : Item 𝓤
-  Params = ‵ (owns (ShrSlice (named 0) κ₁ u64 ∷ ShrSlice (named 1) κ₂ u64 ∷ usize ∷ MutSlice (named 2) κ₃ u64 ∷ u64 ∷ []) a at)
-
-  exits : (ord : List ℕ) (r : Run) (v : Val) → length ord ≡ length order → Is R.the-row r (v ∷ []) → ent 𝓤 (⋆ 𝓤 H A (‵ (finally u64 γ₃ ord) ∷ Tokens ∷ [])) (Post v)
+  exits : (ord : List ℕ) (r : Run) (v : Val) → length ord ≡ length order → Is R.the-row r (v ∷ []) → ent 𝓤 (⋆ 𝓤 H A (Order ord ∷ ‵ (flft κ₃ q₃) ∷ ‵ (flft κ₁ q₁) ∷ ‵ (flft κ₂ q₂) ∷ [])) (Post v)
   exits ord r v long is =
-      qed W (‵ (finally u64 γ₃ ord) ∷ Tokens ∷ []) ∵
+      qed W (Order ord ∷ ‵ (flft κ₃ q₃) ∷ ‵ (flft κ₁ q₁) ∷ ‵ (flft κ₂ q₂) ∷ []) ∵
       suffices ! _ (ends-at 𝓤 H A shuffled.ended stayed (shuffled.clauses 𝓤 H A mem′ run) W (((κ₁, (κ₂, (κ₃, tt))), (q₁, (q₂, (q₃, tt))), tt, a, at), tt) v r (tt, (tt, (tt, (ord, (tt, tt))))) (tt, (tt, (tt, (long, (tt, tt)))))) $
-      nothing ! $ nothing ! $ fjoin ! $ move ! (1 ∷ 0 ∷ []) $ fjoin ! $ nothing ! $ fjoin ! $ nothing ! $ fjoin ! $ nothing ! $ fjoin ! $
+      nothing ! $ move ! (2 ∷ 0 ∷ []) $ join ! $ move ! (3 ∷ 0 ∷ []) $ join ! $ move ! (2 ∷ 0 ∷ []) $ join ! $
+      -- [the tokens; what order owns]
+      nothing ! $ nothing ! $ fjoin ! $ move ! (2 ∷ 0 ∷ []) $ fjoin ! $ nothing ! $ fjoin ! $ nothing ! $ fjoin ! $ nothing ! $ fjoin ! $
       owned ! R.the-row (Is R.the-row) (LL.makes R.the-type R′.the-plain 𝓤 H A) r _ is $ move ! (1 ∷ 0 ∷ []) $ join ! $ move ! (1 ∷ 0 ∷ []) $ join ! $ frame ! $ done !
 
   -- the call of `filled`
@@ -167,57 +154,16 @@ module _ {M : Type 1} (𝓤 : URA M) (H : Heap 𝓤) (A : Atoms 𝓤) (W : Given
         qed W [] ∵ nothing ! $ owned ! u64 (Is u64) (uint-makes 𝓤 H A W w64) held _ (refl, held-fits) $ fjoin ! $ owned ! usize (Is usize) (uint-makes 𝓤 H A W w64) (length weights) _ (refl, room₁ .0) $ fjoin ! $
         owned ! Nodes (Is Nodes) (array-makes 𝓤 H A W N.the-row (node-owned 𝓤 H A) 280) zs _ has $ fjoin ! $ owned ! S.the-row (Is S.the-row) (EL.makes S.the-type S′.the-plain 𝓤 H A) r _ answer-is $ fjoin ! $ nothing ! $ join ! $ frame ! $ done !
 
-  -- the call of `shuffle`, of the nodes xs at l for the lifetime ν under the name δ
-  module _ (xs : List Node) (l ν : ℕ) (δ : GName) where
-    abbrev to-shuffle : Shuffle 𝓤 H A mem′ run .Ghost
-    to-shuffle = (
-      (
-        (κ₁, (κ₂, (κ₃, (ν ∷ [], tt)))),
-        (q₁, (q₂, (q₃, (fullShare, tt)))),
-        tt,
-        (ref₁, (ref₂, (cursor, (ref₃, (ref-at 𝓤 N.the-row (ν ∷ []) δ l 0 δ xs, tt))))),
-        (s₁ ∷ [], (s₂ ∷ [], (vint w64 cursor ∷ [], (s₃ ∷ [], (sliceVal (l, 0) 280 ∷ [], tt))))),
-      ),
-      tt,
-    )
-
-    shuffle-pre : ent 𝓤 (⋆ 𝓤 H A (Tokens ∷ Params ∷ ‵ (flft (ν ∷ []) fullShare) ∷ Owns 𝓤 N.the-row (ν ∷ []) δ l 0 xs 280 ∷ [])) (Shuffle 𝓤 H A mem′ run .pre to-shuffle)
-    shuffle-pre =
-        qed W (Tokens ∷ Params ∷ ‵ (flft (ν ∷ []) fullShare) ∷ Owns 𝓤 N.the-row (ν ∷ []) δ l 0 xs 280 ∷ []) ∵
-        move ! (1 ∷ []) $ fsplit ! $ move ! (1 ∷ []) $ fsplit ! $ move ! (1 ∷ []) $ fsplit ! $ move ! (1 ∷ []) $ fsplit ! $ move ! (1 ∷ []) $ fsplit ! $
-        -- [held; true; what order owns; cursor; what list owns; what weights owns; the tokens; the token of nodes; what it owns]
-        move ! (8 ∷ 1 ∷ []) $ fjoin ! $ move ! (2 ∷ 0 ∷ []) $ fjoin ! $ move ! (2 ∷ 0 ∷ []) $ fjoin ! $ move ! (2 ∷ 0 ∷ []) $ fjoin ! $ move ! (2 ∷ 0 ∷ []) $ fjoin ! $
-        -- [what the parameters own; held; the tokens; the token of nodes]
-        move ! (2 ∷ []) $ split ! $ move ! (1 ∷ []) $ split ! $ move ! (1 ∷ []) $ split ! $
-        -- [the token of order; true; that of list; of weights; what the parameters own; held; the token of nodes]
-        move ! (6 ∷ 1 ∷ []) $ join ! $ move ! (1 ∷ 0 ∷ []) $ join ! $ move ! (1 ∷ 0 ∷ []) $ join ! $ move ! (1 ∷ 0 ∷ []) $ join ! $ join ! $ frame ! $ drop ! $ done !
-
-    abbrev Done : ShuffleAnswer × (List ℕ × List Node) → Val → Type 0
-    Done y u = (length (y .1 .0) ≡ length order) × ((length (y .1 .1) ≡ length xs) × Is S.the-row (y .0) (u ∷ []))
-
-    abbrev After : ShuffleAnswer × (List ℕ × List Node) → Item 𝓤
-    After y = ‵ (finally u64 γ₃ (y .1 .0)) ⊛ (‵ (flft (ν ∷ []) fullShare) ⊛ (‵ (finally N.the-row δ (y .1 .1)) ⊛ Tokens))
-
-    shuffle-post : (u : Val) → ent 𝓤 (Shuffle 𝓤 H A mem′ run .post to-shuffle u) (mean 𝓤 H A (later (some (λ (y : ShuffleAnswer × (List ℕ × List Node)). given (Done y u) (After y)))))
-    shuffle-post u =
-        qed W (raw (Shuffle 𝓤 H A mem′ run .post to-shuffle u) ∷ []) ∵ updating ! $
-        use1 W (later (some (λ (r : ShuffleAnswer). ((‵ (flft κ₁ q₁) ⊛ (‵ (flft κ₂ q₂) ⊛ (‵ (flft κ₃ q₃) ⊛ (‵ (flft (ν ∷ []) fullShare) ⊛ ‵ ftrue)))) ⊛ ‵ (S.the-row .own r (u ∷ []))) ⊛ raw (ensured 𝓤 H A shuffle.ended (shuffle.clauses 𝓤 H A mem′ run) (to-shuffle .0 .0) (to-shuffle .0 .3) tt r)))) (id⊢ 𝓤 _) $ await ! tt $ pick ! (λ r.
-        split ! $ move ! (1 ∷ []) $ use1 W (some (λ (w : Unit {0} × (Unit {0} × (Unit {0} × (List ℕ × (List Node × Unit {0}))))). ‵ (lasts shuffle.ended (to-shuffle .0 .0) (to-shuffle .0 .3) w)
-        ⊛ raw (shuffle.clauses 𝓤 H A mem′ run (to-shuffle .0 .0) (to-shuffle .0 .3) .ensures tt r (atExit shuffle.ended (to-shuffle .0 .0) (to-shuffle .0 .3) w)))) (id⊢ 𝓤 _) $ pick ! (λ w. split ! $
-        fsplit ! $ move ! (1 ∷ []) $ fsplit ! $ move ! (1 ∷ []) $ fsplit ! $ move ! (1 ∷ []) $ fsplit ! $ fsplit ! $ move ! (1 ∷ []) $ feqL ! (λ k₁. move ! (1 ∷ []) $ fsplit ! $ fsplit ! $ move ! (1 ∷ []) $ feqL ! (λ k₂.
-        -- [the list of nodes; true; the list in order; three times true; the clauses; the tokens and the result]
-        keep ! (7 ∷ 2 ∷ 0 ∷ []) $ split ! $ move ! (1 ∷ []) $ facts ! S.the-row (Is S.the-row) (shows 𝓤 H A S.the-row) r (u ∷ []) (λ is. split ! $ move ! (1 ∷ []) $ split ! $ move ! (1 ∷ []) $ split ! $ move ! (1 ∷ []) $ split ! $
-        -- [the token of nodes; true; that of order; of list; of weights; the list in order; the list of nodes]
-        keep ! (5 ∷ 0 ∷ 6 ∷ 4 ∷ 3 ∷ 2 ∷ 1 ∷ []) $
-        at-once ! $ show ! (λ (y : ShuffleAnswer × (List ℕ × List Node)). mean 𝓤 H A (given (Done y u) (After y))) (r, (w .1 .1 .1 .0, w .1 .1 .1 .1 .0)) $ check ! (k₁, (k₂, is)) $ done !)))))
-
   abbrev typed : (zs : List Node) (v : Val) → Is Nodes zs (v ∷ []) → T (hasTy arr v) × WT v
   typed zs v is = array-typed N.the-row (LL.lawful N.the-type N′.the-laws 𝓤 H A W .typed) 280 zs (v ∷ []) is .0
 
   module _ (𝓣 : Tables 𝓤 H) (known-filled : Triple 𝓤 (𝓣 .C #nodes-cases·filled) (Filled 𝓤 H A mem′ run)) (known-shuffle : Triple 𝓤 (𝓣 .C #weighted-shuffle·shuffle) (Shuffle 𝓤 H A mem′ run)) (known-judge : Triple 𝓤 (𝓣 .C #run·judge) (Judge 𝓤 H A mem′ run)) where
     walk : ent 𝓤 (onEntry 𝓤 H A shuffled.signature (κ₁, (κ₂, (κ₃, tt))) (q₁, (q₂, (q₃, tt))) a at) (WpFn 𝓤 H (𝓣 .C) (𝓣 .Λ) code.function (s₁ ∷ s₂ ∷ vint w64 cursor ∷ s₃ ∷ vint w64 held ∷ []) Post)
     walk =
-        qed W (Tokens ∷ Params ∷ []) ∵ enter ! (𝓣 .C) (𝓣 .Λ) code.function (s₁ ∷ s₂ ∷ vint w64 cursor ∷ s₃ ∷ vint w64 held ∷ []) _ $
+        qed W ((‵ (flft κ₁ q₁) ⊛ (‵ (flft κ₂ q₂) ⊛ (‵ (flft κ₃ q₃) ⊛ ‵ ftrue))) ∷ ‵ (owns (ShrSlice (named 0) κ₁ u64 ∷ ShrSlice (named 1) κ₂ u64 ∷ usize ∷ MutSlice (named 2) κ₃ u64 ∷ u64 ∷ []) a at) ∷ []) ∵
+        split ! $ move ! (1 ∷ []) $ split ! $ move ! (1 ∷ []) $ split ! $ move ! (4 ∷ []) $ fsplit ! $ move ! (1 ∷ []) $ fsplit ! $ move ! (1 ∷ []) $ fsplit ! $ move ! (1 ∷ []) $ fsplit ! $ move ! (1 ∷ []) $ fsplit ! $
+        -- [held; true; what order owns; cursor; what list owns; what weights owns; the token of order; true; that of list; of weights]
+        keep ! (2 ∷ 6 ∷ 5 ∷ 9 ∷ 4 ∷ 8 ∷ []) $ enter ! (𝓣 .C) (𝓣 .Λ) code.function (s₁ ∷ s₂ ∷ vint w64 cursor ∷ s₃ ∷ vint w64 held ∷ []) _ $
         alloc1 ! (λ l₀. alloc1 ! (λ l₁. alloc1 ! (λ l₂. alloc1 ! (λ l₃. alloc1 ! (λ l₄. alloc1 ! (λ l₅. alloc1 ! (λ l₆. alloc1 ! (λ l₇. alloc1 ! (λ l₈. alloc1 ! (λ l₉. alloc1 ! (λ l₁₀. alloc1 ! (λ l₁₁. alloc1 ! (λ l₁₂. alloc1 ! (λ l₁₃. alloc1 ! (λ l₁₄. alloc0 ! $ params1 ! $
         pass1 ! (init ! 26 refl (tt, (tt, (record { fits = room₁ .0 }, tt)))) $ pass1 ! (init ! 24 refl (tt, (tt, (record { fits = room₂ .0 }, tt)))) $ pass1 ! (init ! 22 refl (tt, record { fits = cursor-fits })) $ pass1 ! (init ! 20 refl (tt, (tt, (record { fits = room₃ .0 }, tt)))) $ pass1 ! (init ! 18 refl (tt, record { fits = held-fits })) $ pass0 ! $
         -- the node
@@ -225,7 +171,7 @@ module _ {M : Type 1} (𝓤 : URA M) (H : Heap 𝓤) (A : Atoms 𝓤) (W : Given
         use1 W (later (some (λ (x : Node). (‵ ftrue ⊛ ‵ (N.the-row .own x (v ∷ []))) ⊛ raw (ensured 𝓤 H A filled.ended (filled.clauses 𝓤 H A mem′ run) tt (to-filled .0 .3) tt x)))) (id⊢ 𝓤 _) $ await ! tt $ pick ! (λ x.
         split ! $ split ! $ drop ! $ move ! (1 ∷ []) $ drop ! $ peeks ! N.the-row (Is N.the-row) (shows 𝓤 H A N.the-row) x (v ∷ []) (λ node-is.
         use1 W (‵ (Nodes .own (replicate 280 x) (arrayVal (replicate 280 v) ∷ []))) (array-repeat 𝓤 H A W N.the-row (LL.copy N.the-type N′.the-copy 𝓤 H A W) 280 x v) $ peeks ! Nodes (Is Nodes) (shows 𝓤 H A Nodes) (replicate 280 x) (arrayVal (replicate 280 v) ∷ []) (λ nodes-are.
-        -- [what the array owns; _14 at 1; .. _i at 1 + 2 (14 - i); .. _0 at 29; the tokens; the parameters]
+        -- [what the array owns; _14 at 1; .. _i at 1 + 2 (14 - i); .. _0 at 29; what order owns; its token; what weights owns; its token; what list owns; its token]
         land ! (from ! (stop !)) (init ! 17 refl (LL.lawful N.the-type N′.the-laws 𝓤 H A W .typed x _ node-is .0)) $
         assigns ! (rep ! 280 (load ! (from ! (stop !)) (look ! 17 refl))) (from ! (stop !)) (init ! 15 refl (typed (replicate 280 x) _ nodes-are)) $
         assigns ! (addr ! (from ! (fld ! refl (hop ! (look-in ! 21 (sub ! 0 refl (whole !))) (stop !))))) (from ! (stop !)) (init ! 11 refl (tt, tt)) $
@@ -233,34 +179,32 @@ module _ {M : Type 1} (𝓤 : URA M) (H : Heap 𝓤) (A : Atoms 𝓤) (W : Given
         assigns ! (addr ! (from ! (stop !))) (from ! (stop !)) (init ! 7 refl (tt, tt)) $
         assigns ! (agg ! (and-then ! (load ! (from ! (stop !)) (look ! 7 refl)) (and-then ! (lit ! tt) (no-more !)))) (from ! (stop !)) (init ! 5 refl (tt, (tt, (record { fits = lit< tt }, tt)))) $
         -- the array is spread out, and lent
-        move ! (15 ∷ 0 ∷ []) $ use2 W (‵ (arr-parts (shares N.the-row) 280 .part fullShare (replicate 280 x) l₇ 0)) (spreads 𝓤 H A W N.the-row tt 280 (replicate 280 x) (arrayVal (replicate 280 v)) l₇) $ fsplit ! $ feqL ! (λ e.
+        move ! (15 ∷ 0 ∷ []) $ use2 W (‵ (arr-parts (shares N.the-row) 280 .part fullShare (replicate 280 x) l₇ 0)) (spreads 𝓤 H A W N.the-row tt 280 (replicate 280 x) (arrayVal (replicate 280 v)) l₇) $ fsplit ! $ drop ! $
         use1 W (‵ (cells (mem N.the-row) (replicate 280 x) l₇ 0)) (whole-in 𝓤 H A W N.the-row (replicate 280 x) l₇ 0) $ lft-new ! tt (λ ν. move ! (1 ∷ []) $
-        use1 W (later (some (λ (δ : GName). Owns 𝓤 N.the-row (ν ∷ []) δ l₇ 0 (replicate 280 x) (length (replicate 280 x)) ⊛ ‵ (flent (ν ∷ []) (Held N.the-row (length (replicate 280 x)) l₇ 0 δ))))) (lends-slice 𝓤 H A W N.the-row (named 0) (ν ∷ []) (replicate 280 x) l₇ 0 (subst (Room N.the-row) (sym e) (lit< tt, lit< tt))) $ await ! tt $ pick ! (λ δ. split ! $
-        rewrite ! 0 (Owns 𝓤 N.the-row (ν ∷ []) δ l₇ 0 (replicate 280 x)) e refl $
-        -- [what nodes owns; the lender's part; the token; _14 at 3; .. _8 at 15; that _7 dies; _6 at 18; .. _0 at 30; the tokens; the parameters]
-        move ! (2 ∷ 0 ∷ []) $ join ! $ move ! (31 ∷ 32 ∷ 0 ∷ []) $ use3 W (raw (Shuffle 𝓤 H A mem′ run .pre (to-shuffle (replicate 280 x) l₇ ν δ))) (shuffle-pre (replicate 280 x) l₇ ν δ) $
-        calls-at ! (fmOf 𝓤 H (W .laws) 𝓣) (Shuffle 𝓤 H A mem′ run) known-shuffle (to-shuffle (replicate 280 x) l₇ ν δ) (and-then ! (load ! (from ! (stop !)) (look ! 27 refl)) (and-then ! (load ! (from ! (stop !)) (look ! 25 refl)) (and-then ! (load ! (from ! (stop !)) (look ! 23 refl)) (and-then ! (load ! (from ! (stop !)) (look ! 10 refl)) (and-then ! (load ! (from ! (stop !)) (look ! 6 refl)) (no-more !)))))) (λ u.
-        use1 W (later (some (λ (y : ShuffleAnswer × (List ℕ × List Node)). given (Done (replicate 280 x) l₇ ν δ y u) (After (replicate 280 x) l₇ ν δ y)))) (shuffle-post (replicate 280 x) l₇ ν δ u) $ await ! tt $ pick ! (λ y. learn ! (λ is.
-        split ! $ move ! (1 ∷ []) $ split ! $ move ! (1 ∷ []) $ split ! $
-        -- [the list of nodes; the tokens; the token of nodes; the list in order; the lender's part; _14 at 5; …]
-        land ! (from ! (stop !)) (init ! 17 refl (EL.lawful S.the-type S′.the-laws 𝓤 H A W tt .typed (y .0) _ (is .1 .1) .0)) $
-        move ! (2 ∷ []) $ lft-end ! tt $ move ! (0 ∷ 4 ∷ 1 ∷ []) $
-        use3 W (later (‵ (Arr (mem N.the-row) (length (replicate 280 x)) .lies (y .1 .1) l₇ 0))) (slice-back 𝓤 H A W N.the-row (ν ∷ []) δ (y .1 .1) (length (replicate 280 x)) l₇ 0) $ await ! tt $ fsplit ! $ drop ! $
-        use1 W (‵ (row N.the-row fullShare (y .1 .1) l₇ 0)) (whole-out 𝓤 H A W N.the-row (y .1 .1) l₇ 0) $ feqI ! ℕ (length (y .1 .1)) 280 (is .1 .0 ∙ e) $ fjoin ! $
-        use1 W (‵ (Nodes .own (y .1 .1) (vals (y .1 .1))) ⊛ ‵ (cellAt fullShare (Nodes .mir) (vals (y .1 .1)) l₇ 0)) (gathers 𝓤 H A W N.the-row tt 280 val (LL.tells N.the-type N′.the-laws) (y .1 .1) l₇) $ split ! $
-        facts ! Nodes (Is Nodes) (shows 𝓤 H A Nodes) (y .1 .1) (vals (y .1 .1)) (λ has.
-        use1 W (‵ (fat fullShare arr l₇ 0 (whole-of (y .1 .1)))) (W .laws .raw-at fullShare arr l₇ 0 (whole-of (y .1 .1))) $
-        -- [_7; the tokens; the list in order; _14 at 3; .. _8 at 15; that _7 dies; _6 at 18; .. _0 at 30]
-        assigns ! (of-opd ! (load ! (from ! (stop !)) (look ! 0 refl))) (from ! (stop !)) (init ! 5 refl (typed (y .1 .1) _ has)) $
-        assigns ! (of-opd ! (load ! (from ! (fld ! refl (stop !))) (look-in ! 28 (sub ! 1 refl (whole !))))) (from ! (stop !)) (init ! 3 refl (tt, record { fits = room₁ .0 })) $
-        use0 W (raw (Judge 𝓤 H A mem′ run .pre (to-judge (y .0) u (is .1 .1) (y .1 .1) has))) (judge-pre (y .0) u (is .1 .1) (y .1 .1) has) $
-        calls-at ! (fmOf 𝓤 H (W .laws) 𝓣) (Judge 𝓤 H A mem′ run) known-judge (to-judge (y .0) u (is .1 .1) (y .1 .1) has) (and-then ! (load ! (from ! (stop !)) (look ! 16 refl)) (and-then ! (load ! (from ! (stop !)) (look ! 6 refl)) (and-then ! (load ! (from ! (stop !)) (look ! 4 refl)) (and-then ! (load ! (from ! (stop !)) (look ! 21 refl)) (no-more !))))) (λ t.
-        use1 W (later (some (λ (r : Run). (‵ ftrue ⊛ ‵ (R.the-row .own r (t ∷ []))) ⊛ raw (ensured 𝓤 H A judge.ended (judge.clauses 𝓤 H A mem′ run) tt (to-judge (y .0) u (is .1 .1) (y .1 .1) has .0 .3) tt r)))) (id⊢ 𝓤 _) $ await ! tt $ pick ! (λ r.
+        use1 W (later (some (λ (δ : GName). Owns 𝓤 N.the-row (ν ∷ []) δ l₇ 0 (replicate 280 x) 280 ⊛ ‵ (flent (ν ∷ []) (Held N.the-row 280 l₇ 0 δ))))) (lends-slice 𝓤 H A W N.the-row (named 0) (ν ∷ []) (replicate 280 x) l₇ 0 (lit< tt, lit< tt)) $ await ! tt $ pick ! (λ δ. split ! $
+        -- [what nodes owns; the lender's part; the token; _14 at 3; .. _8 at 15; that _7 dies; _6 at 18; .. _0 at 30; what order owns at 32; its token; what weights owns; its token; what list owns; its token]
+        move ! (32 ∷ 33 ∷ 0 ∷ 2 ∷ 34 ∷ 35 ∷ 36 ∷ 37 ∷ []) $
+        calls-shuffle mem′ run κ₃ q₃ γ₃ b₃ o₃ order (ν ∷ []) fullShare δ l₇ 0 (replicate 280 x) κ₁ q₁ γ₁ b₁ o₁ weights κ₂ q₂ γ₂ b₂ o₂ list cursor ! (fmOf 𝓤 H (W .laws) 𝓣) known-shuffle room₃ (lit< tt, lit< tt) cursor-fits (λ _ _ _ _ _ _ _ _. and-then ! (load ! (from ! (stop !)) (look ! 34 refl)) (and-then ! (load ! (from ! (stop !)) (look ! 32 refl)) (and-then ! (load ! (from ! (stop !)) (look ! 30 refl)) (and-then ! (load ! (from ! (stop !)) (look ! 17 refl)) (and-then ! (load ! (from ! (stop !)) (look ! 13 refl)) (no-more !)))))) (λ s ord zs u _ _ _ ord-long zs-long is.
+        -- [what order owns; its token; what nodes owns; its token; what weights owns; its token; what list owns; its token; the lender's part; _14 at 9; .. _8 at 21; …]
+        land ! (from ! (stop !)) (init ! 21 refl (EL.lawful S.the-type S′.the-laws 𝓤 H A W tt .typed s _ is .0)) $
+        -- the nodes are given up, and the array is gathered again
+        move ! (2 ∷ 3 ∷ 8 ∷ []) $ fsplit ! $ drop ! $ fsplit ! $ name-done ! tt $ use1 W (‵ (finally N.the-row δ zs)) (res-finally 𝓤 H A W (named 0) (ν ∷ []) N.the-row δ zs) $ move ! (1 ∷ []) $ drop ! $ move ! (1 ∷ []) $ lft-end ! tt $ move ! (0 ∷ 2 ∷ 1 ∷ []) $
+        use3 W (later (‵ (Arr (mem N.the-row) 280 .lies zs l₇ 0))) (slice-back 𝓤 H A W N.the-row (ν ∷ []) δ zs 280 l₇ 0) $ await ! tt $ fsplit ! $ drop ! $
+        use1 W (‵ (row N.the-row fullShare zs l₇ 0)) (whole-out 𝓤 H A W N.the-row zs l₇ 0) $ feqI ! ℕ (length zs) 280 zs-long $ fjoin ! $
+        use1 W (‵ (Nodes .own zs (vals zs)) ⊛ ‵ (cellAt fullShare (Nodes .mir) (vals zs) l₇ 0)) (gathers 𝓤 H A W N.the-row tt 280 val (LL.tells N.the-type N′.the-laws) zs l₇) $ split ! $
+        facts ! Nodes (Is Nodes) (shows 𝓤 H A Nodes) zs (vals zs) (λ has.
+        use1 W (‵ (fat fullShare arr l₇ 0 (whole-of zs))) (W .laws .raw-at fullShare arr l₇ 0 (whole-of zs)) $
+        -- [_7; what order owns; its token; what weights owns; its token; what list owns; its token; _14 at 7; .. _8 at 19; that _7 dies; _6 at 22; .. _0 at 34]
+        assigns ! (of-opd ! (load ! (from ! (stop !)) (look ! 0 refl))) (from ! (stop !)) (init ! 9 refl (typed zs _ has)) $
+        assigns ! (of-opd ! (load ! (from ! (fld ! refl (stop !))) (look-in ! 32 (sub ! 1 refl (whole !))))) (from ! (stop !)) (init ! 7 refl (tt, record { fits = room₁ .0 })) $
+        use0 W (raw (Judge 𝓤 H A mem′ run .pre (to-judge s u is zs has))) (judge-pre s u is zs has) $
+        calls-at ! (fmOf 𝓤 H (W .laws) 𝓣) (Judge 𝓤 H A mem′ run) known-judge (to-judge s u is zs has) (and-then ! (load ! (from ! (stop !)) (look ! 20 refl)) (and-then ! (load ! (from ! (stop !)) (look ! 10 refl)) (and-then ! (load ! (from ! (stop !)) (look ! 8 refl)) (and-then ! (load ! (from ! (stop !)) (look ! 25 refl)) (no-more !))))) (λ t.
+        use1 W (later (some (λ (r : Run). (‵ ftrue ⊛ ‵ (R.the-row .own r (t ∷ []))) ⊛ raw (ensured 𝓤 H A judge.ended (judge.clauses 𝓤 H A mem′ run) tt (to-judge s u is zs has .0 .3) tt r)))) (id⊢ 𝓤 _) $ await ! tt $ pick ! (λ r.
         split ! $ split ! $ drop ! $ move ! (1 ∷ []) $ drop ! $ facts ! R.the-row (Is R.the-row) (shows 𝓤 H A R.the-row) r (t ∷ []) (λ run-is.
-        land ! (from ! (stop !)) (init ! 30 refl (LL.lawful R.the-type R′.the-laws 𝓤 H A W .typed r _ run-is .0)) $
-        returns ! (look ! 30 refl) $ forget ! 0 refl $ forget ! 3 refl $ forget ! 5 refl $ forget ! 7 refl $ forget ! 9 refl $ forget ! 11 refl $ forget ! 13 refl $ forget ! 15 refl $ forget ! 18 refl $ forget ! 20 refl $ forget ! 22 refl $ forget ! 24 refl $ forget ! 26 refl $ forget ! 28 refl $ forget ! 30 refl $
-        keep ! (30 ∷ 31 ∷ 28 ∷ 29 ∷ 26 ∷ 27 ∷ 24 ∷ 25 ∷ 22 ∷ 23 ∷ 20 ∷ 21 ∷ 18 ∷ 19 ∷ 0 ∷ 17 ∷ 15 ∷ 16 ∷ 13 ∷ 14 ∷ 11 ∷ 12 ∷ 9 ∷ 10 ∷ 7 ∷ 8 ∷ 5 ∷ 6 ∷ 3 ∷ 4 ∷ 2 ∷ 1 ∷ []) $
-        free1 ! $ free1 ! $ free1 ! $ free1 ! $ free1 ! $ free1 ! $ free1 ! $ free1 ! $ free1 ! $ free1 ! $ free1 ! $ free1 ! $ free1 ! $ free1 ! $ free1 ! $ free0 ! $ by ! (exits (y .1 .0) r t (is .0) run-is))))))))))))))))))))))))))))))
+        land ! (from ! (stop !)) (init ! 34 refl (LL.lawful R.the-type R′.the-laws 𝓤 H A W .typed r _ run-is .0)) $
+        returns ! (look ! 34 refl) $ forget ! 0 refl $ forget ! 7 refl $ forget ! 9 refl $ forget ! 11 refl $ forget ! 13 refl $ forget ! 15 refl $ forget ! 17 refl $ forget ! 19 refl $ forget ! 22 refl $ forget ! 24 refl $ forget ! 26 refl $ forget ! 28 refl $ forget ! 30 refl $ forget ! 32 refl $ forget ! 34 refl $
+        keep ! (34 ∷ 35 ∷ 32 ∷ 33 ∷ 30 ∷ 31 ∷ 28 ∷ 29 ∷ 26 ∷ 27 ∷ 24 ∷ 25 ∷ 22 ∷ 23 ∷ 0 ∷ 21 ∷ 19 ∷ 20 ∷ 17 ∷ 18 ∷ 15 ∷ 16 ∷ 13 ∷ 14 ∷ 11 ∷ 12 ∷ 9 ∷ 10 ∷ 7 ∷ 8 ∷ 1 ∷ 2 ∷ 4 ∷ 6 ∷ []) $
+        free1 ! $ free1 ! $ free1 ! $ free1 ! $ free1 ! $ free1 ! $ free1 ! $ free1 ! $ free1 ! $ free1 ! $ free1 ! $ free1 ! $ free1 ! $ free1 ! $ free1 ! $ free0 ! $ by ! (exits ord r t ord-long run-is)))))))))))))))))))))))))))
 
 module _ {M : Type 1} (𝓤 : URA M) (H : Heap 𝓤) (A : Atoms 𝓤) (W : Given 𝓤 H A) (mem′ : Memory → SProp 𝓤) (run : Routine → Fun 𝓤) where
   shuffled-walks : (𝓣 : Tables 𝓤 H) → Triple 𝓤 (𝓣 .C #nodes-cases·filled) (Filled 𝓤 H A mem′ run) → Triple 𝓤 (𝓣 .C #weighted-shuffle·shuffle) (Shuffle 𝓤 H A mem′ run) → Triple 𝓤 (𝓣 .C #run·judge) (Judge 𝓤 H A mem′ run)
@@ -275,7 +219,7 @@ shuffled-meets : {M : Type 1} (𝓤 : URA M) (H : Heap 𝓤) (A : Atoms 𝓤) (W
     → Triple 𝓤 (𝓣 .C #nodes-cases·filled) (Filled 𝓤 H A mem′ run) → Triple 𝓤 (𝓣 .C #weighted-shuffle·shuffle) (Shuffle 𝓤 H A mem′ run) → Triple 𝓤 (𝓣 .C #run·judge) (Judge 𝓤 H A mem′ run)
     → Meets 𝓤 H A shuffled.signature (WpFn 𝓤 H (𝓣 .C) (𝓣 .Λ) code.function) (shuffled.spec 𝓤 H A mem′ run)
 shuffled-meets 𝓤 H A W mem′ run 𝓣 k₁ k₂ k₃ = walk-meets 𝓤 H A shuffled.ended stayed W
-    (goes-dropped 𝓤 H A W 3 (shrSliceOf (0 ∷ []) tt (plain (λ _. u64))) yes (λ κs x f. refl), (goes-dropped 𝓤 H A W 3 (shrSliceOf (1 ∷ []) tt (plain (λ _. u64))) yes (λ κs x f. refl), (goes-dropped 𝓤 H A W 3 (plain (λ _. usize)) yes (λ κs x f. refl), (goes-gave-slice 𝓤 H A W 3 2 tt (plain (λ _. u64)), (goes-dropped 𝓤 H A W 3 (plain (λ _. u64)) yes (λ κs x f. refl), tt)))))
+    (goes-dropped 𝓤 H A W 3 (shrSliceOf (0 ∷ []) tt (plain (λ _. u64))) yes (λ κs x f. refl), (goes-dropped 𝓤 H A W 3 (shrSliceOf (1 ∷ []) tt (plain (λ _. u64))) yes (λ κs x f. refl), (goes-dropped 𝓤 H A W 3 (plain (λ _. usize)) yes (λ κs x f. refl), (goes-slice 𝓤 H A W 3 2 tt (plain (λ _. u64)), (goes-dropped 𝓤 H A W 3 (plain (λ _. u64)) yes (λ κs x f. refl), tt)))))
     (shuffled.clauses 𝓤 H A mem′ run) (WpFn 𝓤 H (𝓣 .C) (𝓣 .Λ) code.function) (WpFn-mono 𝓤 H (W .laws) 𝓣 code.function) (shuffled-walks 𝓤 H A W mem′ run 𝓣 k₁ k₂ k₃)
 
 pub shuffled-spec : {M : Type 1} → stated.statement M
