@@ -525,6 +525,8 @@ def lent_places(name, needed):
 
 
 BEGIN = {
+    "the zeros of 2^64 - 1, 1, 0": accepted(
+        lambda c: c.stakes == [TOP, 1, 0] and c.answer["zeros"] == [1, 2]),
     **lent_places("room", lambda c: c.n),
     **lent_places("room_nodes", lambda c: nodes_needed(c.stakes)),
     **{f"a node too few for {n} weights": refused(
