@@ -49,7 +49,7 @@ put-piece-requires c κs =
     let i = c .before .before .before in
     let l = i .before .before .before .before in
     let r = roomy-here (l .before .before .before .before .before .before) in
-    let f = room-fits _ _ _ _ (l .loop .inv) (i .before .before .before .loop-test .taken) _ refl (i .if1 .taken) in
+    let f = room-fits _ _ _ _ (l .loop .inv) (i .before .before .before .loop-test .taken) _ refl (omega (arith, i .if1 .taken)) in
     let h = l .loop .inv .held in
     (omega (arith, f, r .by-bin, h .by-bin .long), (omega (arith, f, r .by-validator, h .by-validator .long), omega (arith, f, r .by-stake, h .by-stake .long)))
 
@@ -65,14 +65,14 @@ loop-again c =
     let i = p .before .before .before .before in
     let l = i .before .before .before .before in
     let s = l .before .before .before .before .before .before in
-    filling-fits _ _ _ _ (l .loop .inv) (i .before .before .before .loop-test .taken) _ refl (i .if1 .taken) (roomy-here s) (p .put-piece .ensures)
+    filling-fits _ _ _ _ (l .loop .inv) (i .before .before .before .loop-test .taken) _ refl (omega (arith, i .if1 .taken)) (roomy-here s) (p .put-piece .ensures)
 
 put-piece-requires-2 : tie.Need-put-piece-requires-2 Inv-loop μ-loop
 put-piece-requires-2 c κs =
     let i = c .before .before .before in
     let l = i .before .before .before .before in
     let r = roomy-here (l .before .before .before .before .before .before) in
-    let f = room-over _ _ _ _ (l .loop .inv) (i .before .before .before .loop-test .taken) _ refl (i .if1 .left) in
+    let f = room-over _ _ _ _ (l .loop .inv) (i .before .before .before .loop-test .taken) _ refl (omega (arith, i .if1 .left)) in
     let h = l .loop .inv .held in
     (omega (arith, f, r .by-bin, h .by-bin .long), (omega (arith, f, r .by-validator, h .by-validator .long), omega (arith, f, r .by-stake, h .by-stake .long)))
 
@@ -94,7 +94,7 @@ loop-again-2 c =
     let i = p .before .before .before .before in
     let l = i .before .before .before .before in
     let s = l .before .before .before .before .before .before in
-    filling-over _ _ _ _ (l .loop .inv) (i .before .before .before .loop-test .taken) _ refl (i .if1 .left) _ (omega (arith, i .if1 .left, l .loop .inv .part (i .before .before .before .loop-test .taken))) (roomy-here s) (p .put-piece2 .ensures)
+    filling-over _ _ _ _ (l .loop .inv) (i .before .before .before .loop-test .taken) _ refl (omega (arith, i .if1 .left)) _ (omega (arith, i .if1 .left, l .loop .inv .part (i .before .before .before .loop-test .taken))) (roomy-here s) (p .put-piece2 .ensures)
 
 same-length : tie.Need-same-length Inv-loop μ-loop
 same-length c = search needs
