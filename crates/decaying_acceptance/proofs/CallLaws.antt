@@ -15,11 +15,12 @@ use Rattle.refusals.proofs.CheckLaws.{passed, within, Listed, listed, Summed, s
 use Rattle.types.specs.declared.validator_index.ValidatorIndex.{ValidatorIndex}
 use Rattle.words.specs.Outcome.{Outcome, refused, accepted, bufferAfter}
 use Rattle.words.proofs.Outcomes.{goes-on, turned-down}
-use Rattle.decaying_acceptance.specs.declared.tries.Seat.{Seat}
+use Rattle.tries.specs.declared.Seat.{Seat}
 use Rattle.decaying_acceptance.specs.declared.answers.SampleAnswer.the-variants as one
 use Rattle.decaying_acceptance.specs.declared.answers.QuorumAnswer.{QuorumAnswer}
 use Rattle.decaying_acceptance.specs.declared.answers.QuorumAnswer.the-variants as many
-use Rattle.decaying_acceptance.specs.Seats.{seat, raised, Committee, committee, seatIds}
+use Rattle.tries.specs.Tries.{seat}
+use Rattle.decaying_acceptance.specs.Seats.{raised, Committee, committee, seatIds}
 use Rattle.decaying_acceptance.specs.Calls.{oneChecks, quorumChecks}
 use Rattle.decaying_acceptance.specs.Calls as calls
 use Rattle.decaying_acceptance.specs.Answers.{sampleAnswer, countsAfter, quorumAnswer, zeros, Seated, seated}

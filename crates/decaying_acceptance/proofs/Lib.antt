@@ -1,5 +1,3 @@
-pub mod AcceptanceLaws
-pub mod TryLaws
 pub mod SeatLaws
 pub mod CallLaws
 pub mod WithinLaws

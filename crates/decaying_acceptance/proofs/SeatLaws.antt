@@ -13,10 +13,11 @@ use lib.Ieee.{Float}
 use borrow.Author.Tests.{eqb-true, eqb-false}
 use Rattle.words.specs.Outcome.{Outcome, refused, accepted, next}
 use Rattle.words.proofs.Outcomes.{NoLonger, accepted-no-longer, next-no-longer}
-use Rattle.decaying_acceptance.specs.declared.tries.Seat.{Seat}
-use Rattle.decaying_acceptance.specs.Seats.{seat, raised, Committee, committee, seatIds}
+use Rattle.tries.specs.declared.Seat.{Seat}
+use Rattle.tries.specs.Tries.{seat}
+use Rattle.decaying_acceptance.specs.Seats.{raised, Committee, committee, seatIds}
 use Rattle.decaying_acceptance.specs.Answers.{Seated, seated}
-use Rattle.decaying_acceptance.proofs.TryLaws.{seat-no-longer}
+use Rattle.tries.proofs.TryLaws.{seat-no-longer}
 
 -- what is drawn stands after seats that were drawn before, and its tries add to theirs
 abbrev pub after : List ℕ → ℕ → Outcome Seated → Outcome Seated

@@ -9,11 +9,12 @@ use Rattle.laws.specs.Sums.{total}
 use Rattle.refusals.specs.Refusals.{lowest}
 use Rattle.words.specs.Outcome.{Outcome, accepted, next}
 use Rattle.words.proofs.Outcomes.{Went, went, unrefused}
-use Rattle.decaying_acceptance.specs.declared.tries.Seat.{Seat}
-use Rattle.decaying_acceptance.specs.Seats.{seat, raised, Committee, committee}
+use Rattle.tries.specs.declared.Seat.{Seat}
+use Rattle.tries.specs.Tries.{seat}
+use Rattle.decaying_acceptance.specs.Seats.{raised, Committee, committee}
 use Rattle.decaying_acceptance.specs.Calls.{oneChecks, quorumChecks}
 use Rattle.decaying_acceptance.specs.Laws.{SeatWithin, OneWithin, CommitteeWithin, QuorumWithin}
-use Rattle.decaying_acceptance.proofs.TryLaws.{seat-is}
+use Rattle.tries.proofs.TryLaws.{seat-is}
 use Rattle.decaying_acceptance.proofs.CallLaws.{admitted}
 
 seat-within : (allowed : ℕ) (stakes counts : List ℕ) (max : Float) (ws : List ℕ) {s : Seat} {left : List ℕ} → 0 < total stakes →

@@ -2,14 +2,8 @@
 use Prim.Native.Nat.{ℕ}
 use mathlib.Core.List.{List}
 use lib.ListN.{length, replicate}
-use Rattle.refusals.specs.Refusals.{noWordLeft}
 use Rattle.words.specs.Outcome.{Outcome, refused, accepted, next, wordsRead}
-use Rattle.decaying_acceptance.specs.declared.tries.Try.{Try}
-use Rattle.decaying_acceptance.specs.declared.tries.Tried.{Tried}
-use Rattle.decaying_acceptance.specs.declared.tries.Tried.the-variants as tried
-use Rattle.decaying_acceptance.specs.declared.tries.Seat.{Seat}
-use Rattle.decaying_acceptance.specs.declared.tries.DrawnSeat.{DrawnSeat}
-use Rattle.decaying_acceptance.specs.declared.tries.DrawnSeat.the-variants as drawnSeat
+use Rattle.tries.specs.declared.Seat.{Seat}
 use Rattle.decaying_acceptance.specs.declared.quorum.DrawnSeats.{DrawnSeats}
 use Rattle.decaying_acceptance.specs.declared.quorum.DrawnSeats.the-variants as drawnSeats
 use Rattle.decaying_acceptance.specs.declared.answers.SampleAnswer.{SampleAnswer}
@@ -37,16 +31,6 @@ quorumAnswer ws (accepted c left) = quorum.Accepted (record { tries = c .tries; 
 -- a committee "leaves n zeros"
 abbrev pub zeros : List ℕ → Committee → List ℕ
 zeros stakes c = replicate (length stakes) 0
-
--- of `make_try`, with the words that are left
-abbrev pub triedSays : Tried → List ℕ → Outcome Try
-triedSays (tried.Made t) left = accepted t left
-triedSays tried.NoWord left = refused noWordLeft
-
--- of `draw_seat`, likewise
-abbrev pub seatSays : DrawnSeat → List ℕ → Outcome Seat
-seatSays (drawnSeat.Drawn s) left = accepted s left
-seatSays (drawnSeat.Refused n) left = refused n
 
 -- the ids of a committee's seats, and the tries
 pub record Seated : Type 0 where

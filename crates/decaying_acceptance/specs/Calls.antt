@@ -5,8 +5,9 @@ use lib.ListN.{length, take}
 use lib.Ieee.{Float}
 use Rattle.refusals.specs.Refusals.{Check, lowest, listLength, size, triesAllowed, maxSamples, shortBuffer, sumPast, totalZero, countLimit}
 use Rattle.words.specs.Outcome.{Outcome, unless}
-use Rattle.decaying_acceptance.specs.declared.tries.Seat.{Seat}
-use Rattle.decaying_acceptance.specs.Seats.{Committee, seat, committee}
+use Rattle.tries.specs.declared.Seat.{Seat}
+use Rattle.tries.specs.Tries.{seat}
+use Rattle.decaying_acceptance.specs.Seats.{Committee, committee}
 
 -- `sample_one`: 1, 3, 4, 7, 8, 9, 10 with k = 1
 abbrev pub oneChecks : ℕ → List ℕ → List ℕ → Float → List Check

@@ -1,35 +1,12 @@
--- "Decaying".
+-- "Decaying": the seats of a committee.
 use Prim.Native.Nat.{ℕ, zero, suc, _+_}
-use mathlib.Core.Bool.{Bool, cond}
 use mathlib.Core.List.{List, [], _∷_}
-use lib.IntN.{pos}
 use lib.ListN.{getD, set}
-use lib.Ieee.{Float, binary64, ofInt, div, le}
-use Rattle.refusals.specs.Refusals.{lastTryRejected}
-use Rattle.words.specs.Outcome.{Outcome, refused, accepted, next}
+use lib.Ieee.{Float}
+use Rattle.words.specs.Outcome.{Outcome, accepted, next}
 use Rattle.draws.specs.declared.weighted.Place.{Place}
-use Rattle.draws.specs.Weighted.{weighted, ids}
-use Rattle.draws.specs.Fraction.{fraction}
-use Rattle.decaying_acceptance.specs.declared.tries.Try.{Try}
-use Rattle.decaying_acceptance.specs.declared.tries.Seat.{Seat}
-
--- "accepted if the fraction is at least the count over `max_samples`, divided once in f64"
-unfoldable pub accepts : ℕ → Float → Float → Bool
-unfolding le div ofInt
-accepts count max x = le (div binary64 (ofInt binary64 (pos count)) max) x
-
--- "a try is a weighted draw, then a fraction": the place, and whether it is taken
-abbrev pub try : List ℕ → List ℕ → Float → List ℕ → Outcome Try
-try stakes counts max ws =
-    next (weighted stakes ws) (λ p left.
-    next (fraction left) (λ x rest. accepted (record { place = p; taken = accepts (getD counts (p .at) 0) max x }) rest))
-
--- one seat, where so many tries are still allowed after those made
-abbrev pub seat : ℕ → ℕ → List ℕ → List ℕ → Float → List ℕ → Outcome Seat
-seat zero made stakes counts max ws = refused lastTryRejected
-seat (suc allowed) made stakes counts max ws =
-    next (try stakes counts max ws) (λ t left.
-    cond (t .taken) (accepted (record { place = t .place; tries = made + 1 }) left) (seat allowed (made + 1) stakes counts max left))
+use Rattle.draws.specs.Weighted.{ids}
+use Rattle.tries.specs.Tries.{seat}
 
 -- "the count then rises by 1"
 abbrev pub raised : List ℕ → ℕ → List ℕ

@@ -8,7 +8,6 @@ mod checks;
 mod one;
 mod quorum;
 mod sampler;
-mod tries;
 
 pub use answers::Quorum;
 pub use answers::QuorumAnswer;

@@ -1,9 +1,9 @@
 // One seat.
 use crate::answers::Sample;
 use crate::answers::SampleAnswer;
-use crate::tries::DrawnSeat;
-use crate::tries::draw_seat;
 use draws::weighted;
+use tries::DrawnSeat;
+use tries::draw_seat;
 use types::ValidatorIndex;
 ghost use Prim.Native.Nat.{_≤_, _<_};
 ghost use mathlib.Core.Path.{_≡_};
@@ -12,7 +12,7 @@ ghost use lib.ListN.{length, drop};
 ghost use Rattle.laws.specs.Sums.{total, runningSums};
 ghost use Rattle.refusals.specs.declared.Refusal.the-variants.{None};
 ghost use Rattle.refusals.specs.Refusals.{lowest, countLimit};
-ghost use Rattle.decaying_acceptance.specs.Seats.{seat};
+ghost use Rattle.tries.specs.Tries.{seat};
 ghost use Rattle.decaying_acceptance.specs.Calls.{quorumChecks};
 ghost use Rattle.decaying_acceptance.specs.Answers.{sampleAnswer, countsAfter};
 

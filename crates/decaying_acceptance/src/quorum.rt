@@ -1,9 +1,9 @@
 // The seats of a committee.
 use crate::answers::Quorum;
 use crate::answers::QuorumAnswer;
-use crate::tries::DrawnSeat;
-use crate::tries::draw_seat;
 use draws::weighted;
+use tries::DrawnSeat;
+use tries::draw_seat;
 use words::Words;
 ghost use Prim.Native.Nat.{_≤_, _<_};
 ghost use mathlib.Core.Path.{_≡_};

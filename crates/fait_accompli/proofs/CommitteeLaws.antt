@@ -19,12 +19,13 @@ use Rattle.fait_accompli.specs.declared.sampler.Fallback.{Fallback}
 use Rattle.fait_accompli.specs.declared.sampler.Fallback.the-variants.{Bins, Draws}
 use Rattle.fait_accompli.specs.declared.answers.CommitteeAnswer.{CommitteeAnswer}
 use Rattle.fait_accompli.specs.declared.answers.CommitteeAnswer.the-variants.{Accepted, Refused}
-use Rattle.fait_accompli.specs.Seats.{fixedOf, keptOf, further, repeated, sizeOf, fallback, Committee, seatsOf}
+use Rattle.fixed_seats.specs.Fixed.{fixedOf, keptOf, further, repeated}
+use Rattle.fait_accompli.specs.Seats.{sizeOf, fallback, Committee, seatsOf}
 use Rattle.fait_accompli.specs.Calls.{binChecks}
 use Rattle.fait_accompli.specs.Answers.{committeeAnswer, pieceBins, pieceValidators, pieceStakes}
 use Rattle.fait_accompli.specs.Fallbacks.{fallbackOver, Placeable, Drawable, Roomy, Admitted, committeeOver}
-use Rattle.fait_accompli.proofs.KeptLaws.{fixed-le, kept-some}
-use Rattle.fait_accompli.proofs.KeepLaws.{repeated-long}
+use Rattle.fixed_seats.proofs.KeptLaws.{fixed-le, kept-some}
+use Rattle.fixed_seats.proofs.KeepLaws.{repeated-long}
 use Rattle.fait_accompli.proofs.FurtherLaws.{Ends}
 
 -- ---- the outcome

@@ -1,6 +1,4 @@
-pub mod FloorLaws
-pub mod KeptLaws
-pub mod KeepLaws
+pub mod BinLaws
 pub mod FurtherLaws
 pub mod CommitteeLaws
 pub mod CallLaws

@@ -9,7 +9,8 @@ use Rattle.partition.specs.Seats.{capacity}
 use Rattle.partition.specs.Calls.{Places, shortPieces}
 use Rattle.fait_accompli.specs.declared.sampler.Fallback.{Fallback}
 use Rattle.fait_accompli.specs.declared.sampler.Fallback.the-variants.{Bins, Draws}
-use Rattle.fait_accompli.specs.Seats.{keptOf, further, sizeOf, Committee, committee}
+use Rattle.fixed_seats.specs.Fixed.{keptOf, further}
+use Rattle.fait_accompli.specs.Seats.{sizeOf, Committee, committee}
 
 -- 7 for the pieces: "n + k for FA1 over bins"
 abbrev pub pieceChecks : Fallback → ℕ → Places → List Check

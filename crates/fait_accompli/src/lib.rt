@@ -1,7 +1,6 @@
 // The sampler FA1: fixed seats in proportion to stake, and the rest from a fallback.
 mod answers;
 mod checks;
-mod fixed;
 mod further;
 mod quorum;
 mod sampler;

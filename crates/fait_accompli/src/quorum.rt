@@ -1,7 +1,6 @@
 // A committee by a call that is not turned down by its sizes and sum.
 use crate::answers::Committee;
 use crate::answers::CommitteeAnswer;
-use crate::fixed;
 use crate::further;
 use crate::sampler::Fallback;
 use partition::PartitionAnswer;
@@ -42,9 +41,9 @@ fn fill_committee(
     ensures { λ r. ⌜ now («piece_stakes» .exit) ≡ bufferAfter (committeeOver fallback (now (stakes .entry)) (drop «first_cursor» (now (first .entry))) (drop «second_cursor» (now (second .entry)))) pieceStakes (now («piece_stakes» .entry)) ⌝ }
 {
     let k = committee.len();
-    let held = fixed::keep(stakes, sum, k as u64, order, kept);
+    let held = fixed_seats::keep(stakes, sum, k as u64, order, kept);
     let fixed = held.seats as usize;
-    fixed::repeat_ids(order, committee);
+    fixed_seats::repeat_ids(order, committee);
     match further::draw_further(
         fallback,
         kept,

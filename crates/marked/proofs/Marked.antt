@@ -10,7 +10,7 @@ use lib.ListN.{length}
 use borrow.Author.Tests.{eqb-true}
 use lib.Ieee.{lt}
 use Rattle.draws.specs.Fraction.{fractionOf}
-use Rattle.decaying_acceptance.specs.Seats.{accepts}
+use Rattle.tries.specs.Tries.{accepts}
 use Rattle.marked.specs.Table.{Row, table, rowOf}
 
 -- the test: two lists are equal

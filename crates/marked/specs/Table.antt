@@ -8,14 +8,15 @@ use lib.Ieee.{Float, fin}
 use Rattle.laws.specs.Orders.{idsFrom}
 use Rattle.words.specs.Outcome.{Outcome, refused, accepted}
 use Rattle.draws.specs.Below.{below}
-use Rattle.decaying_acceptance.specs.declared.tries.Seat.{Seat}
+use Rattle.tries.specs.declared.Seat.{Seat}
 use Rattle.decaying_acceptance.specs.Calls.{one}
 use Rattle.fill.specs.Fill.{binsOf, validatorsOf, stakesOf}
 use Rattle.partition.specs.Seats.{Parted, seatIds}
 use Rattle.partition.specs.Calls.{Places}
 use Rattle.partition.specs.Calls as bins
 use Rattle.fait_accompli.specs.declared.sampler.Fallback.the-variants.{Bins}
-use Rattle.fait_accompli.specs.Seats.{fixedOf, keptOf, Committee, seatsOf, piecesOf}
+use Rattle.fixed_seats.specs.Fixed.{fixedOf, keptOf}
+use Rattle.fait_accompli.specs.Seats.{Committee, seatsOf, piecesOf}
 use Rattle.fait_accompli.specs.Calls as fa1
 use Rattle.tree.specs.Sizes.{sizes}
 use Rattle.weighted_shuffle.specs.Calls.{shuffled}

@@ -27,11 +27,13 @@ use Rattle.partition.proofs.PieceLaws.{over, over-filled, over-none, over-two, 
 use Rattle.fait_accompli.specs.declared.sampler.Fallback.the-variants.{Bins}
 use Rattle.fait_accompli.specs.declared.answers.Committee as answer
 use Rattle.fait_accompli.specs.declared.answers.CommitteeAnswer.the-variants.{Accepted}
-use Rattle.fait_accompli.specs.Seats.{fixed, kept, fixedOf, keptOf, further, repeated, fallback, Committee, committee, seatsOf, piecesOf}
+use Rattle.fixed_seats.specs.Fixed.{fixed, kept, fixedOf, keptOf, further, repeated}
+use Rattle.fait_accompli.specs.Seats.{fallback, Committee, committee, seatsOf, piecesOf}
 use Rattle.fait_accompli.specs.Calls.{sumChecks, binChecks, quorumChecks, quorum}
 use Rattle.fait_accompli.specs.Answers.{committeeAnswer, pieceBins, pieceValidators, pieceStakes}
-use Rattle.fait_accompli.proofs.KeptLaws.{rest, fixed-zero, kept-zero, rest-zero, kept-none, fixed-le, rest-sum, kept-le}
-use Rattle.fait_accompli.proofs.KeepLaws.{repeated-long}
+use Rattle.fixed_seats.proofs.KeptLaws.{rest, fixed-zero, kept-zero, rest-zero, kept-none, fixed-le, rest-sum}
+use Rattle.fait_accompli.proofs.BinLaws.{kept-le}
+use Rattle.fixed_seats.proofs.KeepLaws.{repeated-long}
 use Rattle.together.specs.Committees.{piecesIn, Fair, CommitteesFair}
 
 -- ---- how often an id stands among repeated ids

@@ -15,7 +15,8 @@ use Rattle.partition.specs.Pieces.{inBin, of, sumOfPieces, chooses}
 use Rattle.fait_accompli.specs.declared.sampler.Fallback.the-variants.{Bins}
 use Rattle.fait_accompli.specs.declared.answers.Committee.{Committee}
 use Rattle.fait_accompli.specs.declared.answers.CommitteeAnswer.the-variants.{Accepted}
-use Rattle.fait_accompli.specs.Seats.{fixed, kept, further, seatsOf}
+use Rattle.fixed_seats.specs.Fixed.{fixed, kept, further}
+use Rattle.fait_accompli.specs.Seats.{seatsOf}
 use Rattle.fait_accompli.specs.Calls.{quorum}
 use Rattle.fait_accompli.specs.Answers.{committeeAnswer, pieceBins, pieceValidators, pieceStakes}
 

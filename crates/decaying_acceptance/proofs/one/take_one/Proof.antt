@@ -7,11 +7,11 @@ use denote.Ref.{now}
 use lib.ListN.{length, getD}
 use Rattle.refusals.proofs.CheckLaws.{counts-low}
 use Rattle.words.specs.Stream.{stream}
-use Rattle.decaying_acceptance.specs.declared.tries.DrawnSeat.{DrawnSeat}
-use Rattle.decaying_acceptance.specs.declared.tries.DrawnSeat.the-variants.{Drawn, Refused}
-use Rattle.decaying_acceptance.specs.Seats.{seat}
-use Rattle.decaying_acceptance.specs.Answers.{seatSays}
-use Rattle.decaying_acceptance.proofs.TryLaws.{Seated, seat-is, seat-no-longer}
+use Rattle.tries.specs.declared.DrawnSeat.{DrawnSeat}
+use Rattle.tries.specs.declared.DrawnSeat.the-variants.{Drawn, Refused}
+use Rattle.tries.specs.Tries.{seat}
+use Rattle.tries.specs.Answers.{seatSays}
+use Rattle.tries.proofs.TryLaws.{Seated, seat-is, seat-no-longer}
 use Rattle.decaying_acceptance.proofs.CallLaws.{one-accepted, one-refused}
 use borrow.Author.Needs.{needs}
 use Rattle.decaying_acceptance.proofs.one.take_one.Statement.{statement}

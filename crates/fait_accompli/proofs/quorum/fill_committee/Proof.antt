@@ -9,7 +9,8 @@ use Rattle.laws.specs.Sums.{total}
 use Rattle.words.specs.Outcome.{Outcome, bufferAfter}
 use Rattle.partition.specs.declared.answers.PartitionAnswer.{PartitionAnswer}
 use Rattle.fait_accompli.specs.declared.answers.CommitteeAnswer.the-variants as answer
-use Rattle.fait_accompli.specs.Seats.{fixedOf, keptOf, repeated, sizeOf, Committee, seatsOf}
+use Rattle.fixed_seats.specs.Fixed.{fixedOf, keptOf, repeated}
+use Rattle.fait_accompli.specs.Seats.{sizeOf, Committee, seatsOf}
 use Rattle.fait_accompli.specs.Answers.{committeeAnswer, pieceBins, pieceValidators, pieceStakes}
 use Rattle.fait_accompli.proofs.FurtherLaws.{Ends}
 use Rattle.fait_accompli.proofs.CommitteeLaws.{drawnBy, over-is, Given, given-accepted, given-refused, fixed-few, drawable, Fronted, fronted, ends-as}

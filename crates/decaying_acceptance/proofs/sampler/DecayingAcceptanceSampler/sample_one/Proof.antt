@@ -3,7 +3,7 @@ use mathlib.Core.Path.{sym, ap, _∙_}
 use denote.Ref.{now}
 use lib.ListN.{drop}
 use Rattle.words.specs.Outcome.{Outcome}
-use Rattle.decaying_acceptance.specs.declared.tries.Seat.{Seat}
+use Rattle.tries.specs.declared.Seat.{Seat}
 use Rattle.decaying_acceptance.specs.Answers.{sampleAnswer, countsAfter}
 use Rattle.decaying_acceptance.proofs.CallLaws.{one-goes-on, one-turned-down}
 use borrow.Author.Needs.{needs}

@@ -1,0 +1,3 @@
+pub mod FloorLaws
+pub mod KeptLaws
+pub mod KeepLaws

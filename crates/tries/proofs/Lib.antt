@@ -1,0 +1,2 @@
+pub mod AcceptanceLaws
+pub mod TryLaws

@@ -1,0 +1,3 @@
+pub mod Tries
+pub mod Answers
+pub mod Laws
