@@ -186,6 +186,23 @@ pub fn begins_u32(a: &[u64], b: &[u32]) -> bool
     true
 }
 
+// Whether list a begins with the bytes b.
+pub fn begins_bytes(a: &[u64], b: &[u8]) -> bool
+    ensures { λ r. ⌜ (r ≡ true → Begins (now (a .entry)) (now (b .entry))) × (Begins (now (a .entry)) (now (b .entry)) → r ≡ true) ⌝ }
+{
+    if a.len() < b.len() {
+        return false;
+    }
+    let mut i = 0;
+    while i < b.len() {
+        if a[i] != b[i] as u64 {
+            return false;
+        }
+        i += 1;
+    }
+    true
+}
+
 // Whether two lists are equal.
 pub fn same(a: &[u64], b: &[u64]) -> bool
     ensures { λ r. ⌜ (r ≡ true → now (a .entry) ≡ now (b .entry)) × (now (a .entry) ≡ now (b .entry) → r ≡ true) ⌝ }

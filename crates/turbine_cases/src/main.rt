@@ -199,21 +199,6 @@ fn view_case(text: &[u8], at: usize) -> Verdict
     )
 }
 
-// Whether list a begins with the bytes b.
-fn begins_bytes(a: &[u64], b: &[u8]) -> bool {
-    if a.len() < b.len() {
-        return false;
-    }
-    let mut i = 0;
-    while i < b.len() {
-        if a[i] != b[i] as u64 {
-            return false;
-        }
-        i += 1;
-    }
-    true
-}
-
 // How many bytes of a buffer a call is lent: as many as are asked for, or all.
 fn byte_places(buffer: &[u8], asked: u64) -> usize
     ensures { λ r. ⌜ Counts r (now (buffer .entry)) ⌝ }
@@ -244,7 +229,7 @@ fn judge_seed(
     ensures { λ r. ⌜ r .next ≡ e .next ⌝ }
 {
     let answer = write_seed(turbine, numbers[0], numbers[1], seed);
-    let same = begins_bytes(wanted, seed);
+    let same = cases::begins_bytes(wanted, seed);
     match answer {
         SeedAnswer::Accepted => cases::accepted(e, same),
         SeedAnswer::Refused(number) => cases::refused(e, number, same),
