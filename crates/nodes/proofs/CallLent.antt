@@ -1,5 +1,6 @@
 -- Calls that a `&κ mut [T]` is lent to, each as one step of the calculus: the slice is lent again for a lifetime that the step makes, the callee is called, the lifetime is ended, and the slice comes back.
 --     Owns ys n        what the holder of the slice has, at the list ys, where the machine's count is n
+--     lent, back       a slice is lent again, and comes back: what stands before such a call and after it
 --     calls-lent       the callee takes a `&mut [T]`. It takes the callee's contract and theorem, what its triple binds outside (G), that its `pre` is had of the token and the slice lent, and what its `post` gives: the token, the slice's last list, and the facts Φ
 --     calls-lent-with  the same where the callee is also handed X, and gives X′ back
 --     calls-both-with  the same where two slices are lent at once, each for a lifetime of its own
@@ -48,14 +49,14 @@ seen-twice {𝓤 = 𝓤} {H = H} {A = A} {W = W} R κ q γ b o ys n t = step (λ
 
 -- what stands before such a call and after it
 module _ {M : Type 1} {𝓤 : URA M} {H : Heap 𝓤} {A : Atoms 𝓤} {K : Type 0} {W : Given 𝓤 H A} {Γ : List (Item 𝓤)} {Z : Goal 𝓤 H} (R : RattleType) (κ : Lft) (q : Share) (γ : GName) (b o : ℕ) (ys : List (R .Denot)) where
-  lent : K → Soaks Z → ((ν : ℕ) (δ : GName) → Seq K W (‵ (flft (ν ∷ []) fullShare) ∷ Owns 𝓤 R (ν ∷ []) δ b o ys (length ys) ∷ ‵ (LentAgain R κ (ν ∷ []) q γ b o δ ys) ∷ Γ) Z)
+  pub lent : K → Soaks Z → ((ν : ℕ) (δ : GName) → Seq K W (‵ (flft (ν ∷ []) fullShare) ∷ Owns 𝓤 R (ν ∷ []) δ b o ys (length ys) ∷ ‵ (LentAgain R κ (ν ∷ []) q γ b o δ ys) ∷ Γ) Z)
       → Seq K W (Owns 𝓤 R κ γ b o ys (length ys) ∷ ‵ (flft κ q) ∷ Γ) Z
   lent t z k =
       lft-new t z (λ ν. move t (1 ∷ 2 ∷ []) $
       use2 W (later (some (λ (δ : GName). Owns 𝓤 R (ν ∷ []) δ b o ys (length ys) ⊛ ‵ (LentAgain R κ (ν ∷ []) q γ b o δ ys)))) (lends-again R κ (ν ∷ []) q γ b o 𝓤 H A W (named 0) (named 0) ys) $ await t z $ pick t (λ δ. split t $
       move t (2 ∷ 0 ∷ []) $ k ν δ))
 
-  back : K → Soaks Z → (ν : ℕ) (δ : GName) (zs : List (R .Denot)) → Room R (length ys) → length zs ≡ length ys
+  pub back : K → Soaks Z → (ν : ℕ) (δ : GName) (zs : List (R .Denot)) → Room R (length ys) → length zs ≡ length ys
       → Step K W (Owns 𝓤 R κ γ b o zs (length ys) ∷ ‵ (flft κ q) ∷ Γ) Z (‵ (flft (ν ∷ []) fullShare) ∷ ‵ (finally R δ zs) ∷ ‵ (LentAgain R κ (ν ∷ []) q γ b o δ ys) ∷ Γ) Z
   back t z ν δ zs room long = step (λ s.
       lft-end t z $ move t (0 ∷ 2 ∷ 1 ∷ []) $

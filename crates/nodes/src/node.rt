@@ -7,6 +7,7 @@ ghost use Rattle.nodes.specs.Node.{withSum, fieldOf};
 ghost use Rattle.nodes.specs.Walks.{below, root};
 
 // One sum for each of sixteen sub-trees.
+#[repr(C)]
 pub struct Node {
     pub sums: [u64; 16],
 }

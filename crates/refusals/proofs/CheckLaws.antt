@@ -15,7 +15,7 @@ use Rattle.refusals.specs.declared.Refusal.{Refusal}
 use Rattle.refusals.specs.declared.Refusal.the-variants.{None, Number}
 use Rattle.refusals.specs.declared.Summed.the-variants.{Sum, Refused}
 use Rattle.refusals.specs.Answers.{summedBy}
-use Rattle.refusals.specs.Refusals.{Check, lowest, overOrZero, listLength, committeeSize, sumPast, totalZero, anyAbove, countLimit}
+use Rattle.refusals.specs.Refusals.{Check, lowest, numberOf, overOrZero, listLength, committeeSize, sumPast, totalZero, anyAbove, countLimit}
 
 -- where no check applies, the first does not, nor any after it
 pub record Passed (c : Check) (cs : List Check) : Type 0 where
@@ -47,6 +47,25 @@ after-number (c ∷ cs) ds n e = go (c .applies) e (after-number cs ds n)
 pub last-passed : (cs : List Check) (d : Check) → lowest (cs ++ (d ∷ [])) ≡ None → d .applies ≡ false
 last-passed [] d e = passed d [] e .head
 last-passed (c ∷ cs) d e = last-passed cs d (passed c (cs ++ (d ∷ [])) e .rest)
+
+-- every number of these checks is above 0
+abbrev pub Numbered : List Check → Type 0
+Numbered [] = Unit {0}
+Numbered (c ∷ cs) = (0 < c .number) × Numbered cs
+
+-- so where the number of the lowest is 0, none applies
+pub none-of : (cs : List Check) → Numbered cs → numberOf (lowest cs) ≡ 0 → lowest cs ≡ None
+none-of [] h e = refl
+none-of (c ∷ cs) h e = go (c .applies) (none-of cs (h .1)) e
+  where
+    go : (b : Bool) → (numberOf (lowest cs) ≡ 0 → lowest cs ≡ None) → numberOf (cond b (Number (c .number)) (lowest cs)) ≡ 0 → cond b (Number (c .number)) (lowest cs) ≡ None
+    go true ih e = absurd (omega (arith, h .0))
+    go false ih e = ih e
+
+-- and where it is not 0, it is the refusal's
+pub number-of : (r : Refusal) → (numberOf r ≡ 0 → ⊥) → r ≡ Number (numberOf r)
+number-of None h = absurd (h refl)
+number-of (Number n) h = refl
 
 -- a number that is neither above a limit nor 0
 pub within : (limit n : ℕ) → overOrZero limit n ≡ false → (n ≤ limit) × (0 < n)

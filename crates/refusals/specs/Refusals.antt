@@ -20,6 +20,11 @@ abbrev pub lowest : List Check → Refusal
 lowest [] = None
 lowest (c ∷ cs) = cond (c .applies) (Number (c .number)) (lowest cs)
 
+-- a refusal's number, or 0
+abbrev pub numberOf : Refusal → ℕ
+numberOf None = 0
+numberOf (Number n) = n
+
 -- over a limit, or 0
 abbrev pub overOrZero : ℕ → ℕ → Bool
 overOrZero limit n = ltb limit n || eqb n 0

@@ -1,17 +1,15 @@
 -- Laws of a call of `TurbineTree::new`: from its checks and the shuffle to its answer and what its buffers hold.
 use Prim.Native.Nat.{ℕ, _+_, _≤_, _<_, min}
 use mathlib.Core.Path.{_≡_, refl, sym, ap, _∙_}
-use mathlib.Core.Bool.{Bool, true, false, cond}
 use mathlib.Core.List.{List, [], _∷_, _++_}
 use native.Mathlib.Omega.{arith}
 use lib.ListN.{length, take, drop}
 use lib.Seq.{take-at}
 use borrow.Author.Tests.{ltb-false, leb-false, le-ltb}
 use Rattle.laws.proofs.Ids.{order-long}
-use Rattle.refusals.specs.declared.Refusal.{Refusal}
 use Rattle.refusals.specs.declared.Refusal.the-variants.{None, Number}
-use Rattle.refusals.specs.Refusals.{Check, lowest, listLength, fanoutLimit, notBelow, shortBuffer}
-use Rattle.refusals.proofs.CheckLaws.{passed, within, listed}
+use Rattle.refusals.specs.Refusals.{lowest, numberOf, listLength, fanoutLimit, notBelow, shortBuffer}
+use Rattle.refusals.proofs.CheckLaws.{passed, within, listed, none-of, number-of}
 use Rattle.words.specs.Outcome.{Outcome, refused, accepted, giving, bufferAfter}
 use Rattle.words.proofs.Outcomes.{goes-on, turned-down}
 use Rattle.nodes.specs.declared.node.Node.{Node}
@@ -25,27 +23,8 @@ use Rattle.weighted_shuffle.proofs.WholeLaws.{orders-whole}
 use Rattle.turbine.specs.declared.answers.ViewAnswer.{ViewAnswer}
 use Rattle.turbine.specs.declared.answers.ViewAnswer.the-variants.{Refused}
 use Rattle.turbine.specs.View.{Neighborhood, neighborhood}
-use Rattle.turbine.specs.Calls.{Lent, bufferChecks, viewChecks, viewCall, numberOf}
+use Rattle.turbine.specs.Calls.{Lent, bufferChecks, viewChecks, viewCall}
 use Rattle.turbine.specs.Answers.{viewAnswer, answerBy, childrenBy}
-
--- every number of these checks is above 0
-abbrev Numbered : List Check → Type 0
-Numbered [] = Unit {0}
-Numbered (c ∷ cs) = (0 < c .number) × Numbered cs
-
--- so where the number of the lowest is 0, none applies
-none-of : (cs : List Check) → Numbered cs → numberOf (lowest cs) ≡ 0 → lowest cs ≡ None
-none-of [] h e = refl
-none-of (c ∷ cs) h e = go (c .applies) (none-of cs (h .1)) e
-  where
-    go : (b : Bool) → (numberOf (lowest cs) ≡ 0 → lowest cs ≡ None) → numberOf (cond b (Number (c .number)) (lowest cs)) ≡ 0 → cond b (Number (c .number)) (lowest cs) ≡ None
-    go true ih e = absurd (omega (arith, h .0))
-    go false ih e = ih e
-
--- and where it is not 0, it is the refusal's
-number-of : (r : Refusal) → (numberOf r ≡ 0 → ⊥) → r ≡ Number (numberOf r)
-number-of None h = absurd (h refl)
-number-of (Number n) h = refl
 
 -- what is known of a call that its input does not turn down
 pub record Admitted (n fanout own : ℕ) (lent : Lent) : Type 0 where

@@ -4,3 +4,4 @@ pub mod AnswerLaws
 pub mod CallLaws
 pub mod TreeLaws
 pub mod ViewCalls
+pub mod EntryCalls

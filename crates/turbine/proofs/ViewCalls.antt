@@ -35,7 +35,7 @@ use denote.Triple.Clauses.{ensured, lasts}
 use Rattle.types.specs.declared.validator_index.ValidatorIndex.{ValidatorIndex}
 use Rattle.types.proofs.validator_index.ValidatorIndex as Id
 use Rattle.types.proofs.validator_index.ValidatorIndex.Laws as Id′
-use Rattle.refusals.specs.Refusals.{lowest}
+use Rattle.refusals.specs.Refusals.{lowest, numberOf}
 use Rattle.nodes.proofs.Again.{LentShared, lends-shared, comes-back-shared}
 use Rattle.nodes.proofs.CallLent.{at, Owns, Sees, calls-lent-with}
 use Rattle.nodes.proofs.Says.{says-three}
@@ -45,7 +45,7 @@ use Rattle.weighted_shuffle.proofs.answers.ShuffleAnswer as S
 use Rattle.weighted_shuffle.proofs.answers.ShuffleAnswer.Laws as S′
 use Rattle.turbine.specs.declared.answers.ViewAnswer.{ViewAnswer}
 use Rattle.turbine.specs.View.{neighborhood}
-use Rattle.turbine.specs.Calls.{viewChecks, numberOf}
+use Rattle.turbine.specs.Calls.{viewChecks}
 use Rattle.turbine.specs.Answers.{answerBy, childrenBy}
 use Rattle.turbine.proofs.answers.ViewAnswer as R
 use Rattle.turbine.proofs.checks.view_refusal as view-refusal

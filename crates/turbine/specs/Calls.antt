@@ -2,8 +2,6 @@
 use Prim.Native.Nat.{ℕ, min}
 use mathlib.Core.List.{List, [], _∷_}
 use lib.ListN.{length, drop}
-use Rattle.refusals.specs.declared.Refusal.{Refusal}
-use Rattle.refusals.specs.declared.Refusal.the-variants.{None, Number}
 use Rattle.refusals.specs.Refusals.{Check, lowest, listLength, fanoutLimit, notBelow, shortBuffer}
 use Rattle.words.specs.Outcome.{Outcome, unless, giving}
 use Rattle.nodes.specs.declared.node.Node.{Node}
@@ -34,8 +32,3 @@ view stakes fanout own lent ws =
 abbrev pub viewCall : List ℕ → ℕ → ℕ → List ℕ → ℕ → List ℕ → List Node → List ℕ → Outcome Neighborhood
 viewCall stakes fanout own list cursor order nodes children =
     view stakes fanout own (record { order = length order; nodes = length nodes; children = length children }) (drop cursor list)
-
--- a refusal's number, or 0
-abbrev pub numberOf : Refusal → ℕ
-numberOf None = 0
-numberOf (Number n) = n

@@ -3,8 +3,8 @@ use crate::neighborhood;
 use tree::sizes;
 use types::ValidatorIndex;
 ghost use mathlib.Core.Path.{_≡_};
-ghost use Rattle.refusals.specs.Refusals.{lowest};
-ghost use Rattle.turbine.specs.Calls.{bufferChecks, viewChecks, numberOf};
+ghost use Rattle.refusals.specs.Refusals.{lowest, numberOf};
+ghost use Rattle.turbine.specs.Calls.{bufferChecks, viewChecks};
 
 // 7 or 0, for n validators, of whom one may have so many children.
 fn buffer_refusal(n: usize, most: usize, order: usize, nodes: usize, children: usize) -> u64

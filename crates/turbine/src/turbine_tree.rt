@@ -76,6 +76,13 @@ impl TurbineTree {
         self.parent
     }
 
+    // Gives how many children this validator has.
+    pub fn num_children(self) -> usize
+        ensures { λ r. ⌜ r ≡ self .children ⌝ }
+    {
+        self.children
+    }
+
     // Gives the list of children of this validator: that part of the buffer that was lent for them. Of a shorter buffer it is the whole.
     pub fn get_children(self, children: &[u64]) -> &[u64]
         ensures { λ r. ⌜ now r ≡ take (self .children) (now (children .entry)) ⌝ }

@@ -42,7 +42,7 @@ use denote.Exit.{yes}
 use Rattle.types.specs.declared.validator_index.ValidatorIndex.{ValidatorIndex}
 use Rattle.types.proofs.validator_index.ValidatorIndex as Id
 use Rattle.types.proofs.validator_index.ValidatorIndex.Laws as Id′
-use Rattle.refusals.specs.Refusals.{lowest}
+use Rattle.refusals.specs.Refusals.{lowest, numberOf}
 use Rattle.words.specs.Outcome.{Outcome, bufferAfter}
 use Rattle.nodes.specs.declared.node.Node.{Node}
 use Rattle.nodes.proofs.node.Node as N
@@ -61,7 +61,7 @@ use Rattle.weighted_shuffle.proofs.shuffle.shuffle.Symbol.{name as #weighted-sh
 use Rattle.weighted_shuffle.proofs.shuffle.shuffle.Met as shuffle-thm
 use Rattle.turbine.specs.declared.answers.ViewAnswer.{ViewAnswer}
 use Rattle.turbine.specs.declared.answers.ViewAnswer.the-variants.{Refused}
-use Rattle.turbine.specs.Calls.{viewChecks, numberOf}
+use Rattle.turbine.specs.Calls.{viewChecks}
 use Rattle.turbine.proofs.CallLaws.{Ended, turned, goes-on-asks, went-on}
 use Rattle.turbine.proofs.ViewCalls.{ViewRefusal, ViewOf, calls-view-refusal, calls-view-of}
 use Rattle.turbine.proofs.answers.ViewAnswer as R

@@ -1,0 +1,2 @@
+pub mod RefCalls
+pub mod TellCalls
