@@ -72,7 +72,7 @@ struct valwydr_node {
 
 /*
  * StakeWeightedSampler::sample: one validator, in proportion to its stake.
- * Refusals: 1, 7, 8, 9, 12.
+ * Refusals: 1, 8, 9, 12.
  */
 enum { VALWYDR_SAMPLE_ID, VALWYDR_SAMPLE_WORDS_READ, VALWYDR_SAMPLE_ANSWER };
 uint64_t valwydr_stake_weighted_sample(

@@ -37,12 +37,12 @@ use Rattle.weighted_shuffle.proofs.answers.ShuffleAnswer.Laws as S′
 use Rattle.turbine.specs.declared.answers.ViewAnswer.{ViewAnswer}
 use Rattle.turbine.proofs.answers.ViewAnswer as R
 use Rattle.turbine.proofs.answers.ViewAnswer.Laws as R′
-use Rattle.valwydr.specs.Told.{result, array, shuffleTold, viewTold}
+use Rattle.answers.specs.Told.{result, array, shuffleTold, viewTold}
 use Rattle.valwydr.proofs.RefCalls.{ref-at, Refers, calls-ref}
-use Rattle.valwydr.proofs.answers.tell_order as tell-order
-use Rattle.valwydr.proofs.answers.tell_order.Symbol.{name as #valwydr·tell-order}
-use Rattle.valwydr.proofs.answers.tell_view as tell-view
-use Rattle.valwydr.proofs.answers.tell_view.Symbol.{name as #valwydr·tell-view}
+use Rattle.answers.proofs.tell_order as tell-order
+use Rattle.answers.proofs.tell_order.Symbol.{name as #answers·tell-order}
+use Rattle.answers.proofs.tell_view as tell-view
+use Rattle.answers.proofs.tell_view.Symbol.{name as #answers·tell-view}
 
 module _ {M : Type 1} (𝓤 : URA M) (H : Heap 𝓤) (A : Atoms 𝓤) (mem : Memory → SProp 𝓤) (run : Routine → Fun 𝓤) where
   abbrev pub TellOrder : Contract 𝓤
@@ -76,10 +76,10 @@ module _ {M : Type 1} (𝓤 : URA M) (H : Heap 𝓤) (A : Atoms 𝓤) (W : Given
 
 module _ {M : Type 1} {𝓤 : URA M} {H : Heap 𝓤} {A : Atoms 𝓤} {K : Type 0} {W : Given 𝓤 H A} {Γ : List (Item 𝓤)} {E : Env 𝓤 H} {C : Calls 𝓤 H} {Λ : Loops 𝓤 H} {xs : List Operand} {rest : Body} {d : Place} {p : Post 𝓤 H}
     (mem : Memory → SProp 𝓤) (run : Routine → Fun 𝓤) (κ : Lft) (q : Share) (γ : GName) (b o : ℕ) (answer : List ℕ) (s : ShuffleAnswer) (v : Val) where
-  pub calls-tell-order : K → FmC 𝓤 H (W .laws) C → Triple 𝓤 (C #valwydr·tell-order) (TellOrder 𝓤 H A mem run) → Is S.the-row s (v ∷ [])
+  pub calls-tell-order : K → FmC 𝓤 H (W .laws) C → Triple 𝓤 (C #answers·tell-order) (TellOrder 𝓤 H A mem run) → Is S.the-row s (v ∷ [])
       → ((i j : Item 𝓤) → Opds K W (i ∷ j ∷ Γ) E xs (v ∷ vptr b o ∷ []))
       → ((r : ℕ) (answer′ : List ℕ) → r ≡ result (shuffleTold s) → answer′ ≡ array (shuffleTold s) answer → r < 2 ^ 64 → Seq K W (Refers 𝓤 (Array u64 1) κ γ b o answer′ ∷ ‵ (flft κ q) ∷ Γ) (lands C Λ E d (vint w64 r) rest p))
-      → Seq K W (Refers 𝓤 (Array u64 1) κ γ b o answer ∷ ‵ (flft κ q) ∷ Γ) (runs C Λ E (seq (call #valwydr·tell-order xs d) rest) p)
+      → Seq K W (Refers 𝓤 (Array u64 1) κ γ b o answer ∷ ‵ (flft κ q) ∷ Γ) (runs C Λ E (seq (call #answers·tell-order xs d) rest) p)
   calls-tell-order t fm known s-has ops k =
       calls-ref (Array u64 1) κ q γ b o (TellOrder 𝓤 H A mem run) answer (to-tell-order 𝓤 H A W mem run b o answer s v s-has) t fm known (λ (y : ℕ × List ℕ). y .1) (OrderTold 𝓤 H A W mem run b o answer s v s-has)
       (tell-order-pre 𝓤 H A W mem run b o answer s v s-has) (tell-order-post 𝓤 H A W mem run b o answer s v s-has) (λ ν δ. ops)
@@ -117,10 +117,10 @@ module _ {M : Type 1} (𝓤 : URA M) (H : Heap 𝓤) (A : Atoms 𝓤) (W : Given
 
 module _ {M : Type 1} {𝓤 : URA M} {H : Heap 𝓤} {A : Atoms 𝓤} {K : Type 0} {W : Given 𝓤 H A} {Γ : List (Item 𝓤)} {E : Env 𝓤 H} {C : Calls 𝓤 H} {Λ : Loops 𝓤 H} {xs : List Operand} {rest : Body} {d : Place} {p : Post 𝓤 H}
     (mem : Memory → SProp 𝓤) (run : Routine → Fun 𝓤) (κ : Lft) (q : Share) (γ : GName) (b o : ℕ) (answer : List ℕ) (s : ViewAnswer) (v : Val) where
-  pub calls-tell-view : K → FmC 𝓤 H (W .laws) C → Triple 𝓤 (C #valwydr·tell-view) (TellView 𝓤 H A mem run) → Is R.the-row s (v ∷ [])
+  pub calls-tell-view : K → FmC 𝓤 H (W .laws) C → Triple 𝓤 (C #answers·tell-view) (TellView 𝓤 H A mem run) → Is R.the-row s (v ∷ [])
       → ((i j : Item 𝓤) → Opds K W (i ∷ j ∷ Γ) E xs (v ∷ vptr b o ∷ []))
       → ((r : ℕ) (answer′ : List ℕ) → r ≡ result (viewTold s) → answer′ ≡ array (viewTold s) answer → r < 2 ^ 64 → Seq K W (Refers 𝓤 (Array u64 4) κ γ b o answer′ ∷ ‵ (flft κ q) ∷ Γ) (lands C Λ E d (vint w64 r) rest p))
-      → Seq K W (Refers 𝓤 (Array u64 4) κ γ b o answer ∷ ‵ (flft κ q) ∷ Γ) (runs C Λ E (seq (call #valwydr·tell-view xs d) rest) p)
+      → Seq K W (Refers 𝓤 (Array u64 4) κ γ b o answer ∷ ‵ (flft κ q) ∷ Γ) (runs C Λ E (seq (call #answers·tell-view xs d) rest) p)
   calls-tell-view t fm known s-has ops k =
       calls-ref (Array u64 4) κ q γ b o (TellView 𝓤 H A mem run) answer (to-tell-view 𝓤 H A W mem run b o answer s v s-has) t fm known (λ (y : ℕ × List ℕ). y .1) (ViewTold 𝓤 H A W mem run b o answer s v s-has)
       (tell-view-pre 𝓤 H A W mem run b o answer s v s-has) (tell-view-post 𝓤 H A W mem run b o answer s v s-has) (λ ν δ. ops)

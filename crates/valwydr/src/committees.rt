@@ -1,5 +1,4 @@
 // `PartitionSampler` and `FaitAccompli1Sampler`.
-use crate::answers;
 use fait_accompli::FaitAccompli1Sampler;
 use partition::PartitionSampler;
 ghost use mathlib.Core.Path.{_≡_};
@@ -13,7 +12,7 @@ ghost use Rattle.fait_accompli.specs.declared.sampler.Fallback.the-variants.{Bi
 ghost use Rattle.fait_accompli.specs.Seats.{seatsOf};
 ghost use Rattle.fait_accompli.specs.Calls as committee;
 ghost use Rattle.fait_accompli.specs.Answers.{committeeAnswer, pieceBins, pieceValidators, pieceStakes};
-ghost use Rattle.valwydr.specs.Told.{result, array, partitionTold, committeeTold};
+ghost use Rattle.answers.specs.Told.{result, array, partitionTold, committeeTold};
 ghost use Rattle.valwydr.specs.Lent.{lent};
 
 // One seat from each bin, written to the front of seats; the pieces in fill order are written to the front of the columns. The answer:

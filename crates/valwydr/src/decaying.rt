@@ -1,5 +1,4 @@
 // `DecayingAcceptanceSampler`.
-use crate::answers;
 use decaying_acceptance::DecayingAcceptanceSampler;
 ghost use mathlib.Core.Path.{_≡_};
 ghost use lib.ListN.{length, drop, replicate};
@@ -7,7 +6,7 @@ ghost use Rattle.words.specs.Outcome.{bufferAfter};
 ghost use Rattle.decaying_acceptance.specs.Seats.{seatIds};
 ghost use Rattle.decaying_acceptance.specs.Calls.{one, quorum};
 ghost use Rattle.decaying_acceptance.specs.Answers.{sampleAnswer, countsAfter, quorumAnswer, zeros};
-ghost use Rattle.valwydr.specs.Told.{result, array, triedTold, triedQuorumTold};
+ghost use Rattle.answers.specs.Told.{result, array, triedTold, triedQuorumTold};
 
 // One validator, whose count rises by 1. The answer: its id, the tries made, the words read.
 #[no_mangle]

@@ -1,5 +1,4 @@
 // `StakeWeightedSampler` and `IidQuorumSampler`.
-use crate::answers;
 use stake_weighted::IidQuorumSampler;
 use stake_weighted::StakeWeightedSampler;
 ghost use mathlib.Core.Path.{_≡_};
@@ -8,7 +7,7 @@ ghost use Rattle.words.specs.Outcome.{bufferAfter};
 ghost use Rattle.draws.specs.Weighted.{ids};
 ghost use Rattle.stake_weighted.specs.Calls.{sample, quorum};
 ghost use Rattle.stake_weighted.specs.Answers.{sampleAnswer, quorumAnswer};
-ghost use Rattle.valwydr.specs.Told.{result, array, sampleTold, quorumTold};
+ghost use Rattle.answers.specs.Told.{result, array, sampleTold, quorumTold};
 
 // One validator. The answer: its id, the words read.
 #[no_mangle]

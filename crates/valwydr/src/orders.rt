@@ -1,5 +1,4 @@
 // The weighted shuffle and the Turbine view.
-use crate::answers;
 use nodes::node::Node;
 use tree::sizes;
 use turbine::turbine_tree::TurbineTree;
@@ -13,7 +12,7 @@ ghost use Rattle.weighted_shuffle.specs.Calls.{shuffled, nodesAfter};
 ghost use Rattle.weighted_shuffle.specs.Answers.{shuffleAnswer};
 ghost use Rattle.turbine.specs.Calls.{viewCall};
 ghost use Rattle.turbine.specs.Answers.{viewAnswer};
-ghost use Rattle.valwydr.specs.Told.{result, array, sizesTold, shuffleTold, viewTold};
+ghost use Rattle.answers.specs.Told.{result, array, sizesTold, shuffleTold, viewTold};
 
 // The nodes of a full tree that could hold so many weights, and those that have children: the answer.
 #[no_mangle]

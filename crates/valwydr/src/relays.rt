@@ -1,9 +1,8 @@
 // Seeds, and the relay of a shred.
-use crate::answers;
 ghost use mathlib.Core.Path.{_≡_};
 ghost use Rattle.seeds.specs.Seeds.{turbineSeed, rotorSeed, seedAnswer, seedAfter};
 ghost use Rattle.rotor.specs.Relay.{relayAnswer};
-ghost use Rattle.valwydr.specs.Told.{result, array, seedTold, relayTold};
+ghost use Rattle.answers.specs.Told.{result, array, seedTold, relayTold};
 
 // The seed of the Turbine tree for a shred of a slot, written to the front of seed.
 #[no_mangle]

@@ -1,5 +1,4 @@
 // Arithmetic on stakes, and decimal digits. Each gives whether there is a result, which is then stored.
-use crate::answers;
 use types::Stake;
 use types::ValidatorIndex;
 ghost use Prim.Native.Nat.{_+_, _*_};
@@ -7,7 +6,7 @@ ghost use mathlib.Core.Path.{_≡_};
 ghost use Rattle.laws.specs.Sums.{total};
 ghost use Rattle.types.specs.Stake.{checked, checkedSub, checkedDivCeil};
 ghost use Rattle.types.specs.Decimal.{digits, formatted, bufferAfter};
-ghost use Rattle.valwydr.specs.Stakes.{isStake, stakeAfter, isWritten, countAfter};
+ghost use Rattle.answers.specs.Stakes.{isStake, stakeAfter, isWritten, countAfter};
 
 // The stake divided by the divisor, rounded up.
 #[no_mangle]

@@ -60,12 +60,12 @@ use Rattle.turbine.proofs.EntryCalls.{New, calls-new}
 use Rattle.turbine.proofs.turbine_tree.TurbineTree.new.Symbol as new-def
 use Rattle.turbine.proofs.turbine_tree.TurbineTree.new.Symbol.{name as #turbine·new}
 use Rattle.turbine.proofs.turbine_tree.TurbineTree.new.Met as new-thm
-use Rattle.valwydr.specs.Told.{result, array, viewTold}
+use Rattle.answers.specs.Told.{result, array, viewTold}
 use Rattle.valwydr.proofs.RefCalls.{Refers}
 use Rattle.valwydr.proofs.TellCalls.{NewId, calls-new-id, TellView, calls-tell-view}
-use Rattle.valwydr.proofs.answers.tell_view.Symbol as tell-view-def
-use Rattle.valwydr.proofs.answers.tell_view.Symbol.{name as #valwydr·tell-view}
-use Rattle.valwydr.proofs.answers.tell_view.Met as tell-view-thm
+use Rattle.answers.proofs.tell_view.Symbol as tell-view-def
+use Rattle.answers.proofs.tell_view.Symbol.{name as #answers·tell-view}
+use Rattle.answers.proofs.tell_view.Met as tell-view-thm
 use Rattle.valwydr.proofs.orders.valwydr_turbine_tree_new.Key.{name as #valwydr·turbine-tree-new}
 use Rattle.valwydr.proofs.orders.valwydr_turbine_tree_new as it
 use Rattle.valwydr.proofs.orders.valwydr_turbine_tree_new.Statement as stated
@@ -152,7 +152,7 @@ module _ {M : Type 1} (𝓤 : URA M) (H : Heap 𝓤) (A : Atoms 𝓤) (W : Given
       owned ! u64 (Is u64) (uint-makes 𝓤 H A W w64) own _ (refl, own-fits) $ fjoin ! $ owned ! usize (Is usize) (uint-makes 𝓤 H A W w64) fanout _ (refl, fanout-fits) $ fjoin ! $ move ! (1 ∷ 0 ∷ []) $ fjoin ! $ frame ! $
       owned ! u64 (Is u64) (uint-makes 𝓤 H A W w64) r _ is $ done !
 
-  module _ (𝓣 : Tables 𝓤 H) (known-new-id : Triple 𝓤 (𝓣 .C #types·new-id) (NewId 𝓤 H A mem run)) (known-new : Triple 𝓤 (𝓣 .C #turbine·new) (New 𝓤 H A mem run)) (known-tell-view : Triple 𝓤 (𝓣 .C #valwydr·tell-view) (TellView 𝓤 H A mem run)) where
+  module _ (𝓣 : Tables 𝓤 H) (known-new-id : Triple 𝓤 (𝓣 .C #types·new-id) (NewId 𝓤 H A mem run)) (known-new : Triple 𝓤 (𝓣 .C #turbine·new) (New 𝓤 H A mem run)) (known-tell-view : Triple 𝓤 (𝓣 .C #answers·tell-view) (TellView 𝓤 H A mem run)) where
     abbrev C : Calls 𝓤 H
     C = 𝓣 .C
 
@@ -231,7 +231,7 @@ module _ {M : Type 1} (𝓤 : URA M) (H : Heap 𝓤) (A : Atoms 𝓤) (W : Given
         })))))))))))))))))))))))
 
 module _ {M : Type 1} (𝓤 : URA M) (H : Heap 𝓤) (A : Atoms 𝓤) (W : Given 𝓤 H A) (mem : Memory → SProp 𝓤) (run : Routine → Fun 𝓤) where
-  walks : (𝓣 : Tables 𝓤 H) → Triple 𝓤 (𝓣 .C #types·new-id) (NewId 𝓤 H A mem run) → Triple 𝓤 (𝓣 .C #turbine·new) (New 𝓤 H A mem run) → Triple 𝓤 (𝓣 .C #valwydr·tell-view) (TellView 𝓤 H A mem run)
+  walks : (𝓣 : Tables 𝓤 H) → Triple 𝓤 (𝓣 .C #types·new-id) (NewId 𝓤 H A mem run) → Triple 𝓤 (𝓣 .C #turbine·new) (New 𝓤 H A mem run) → Triple 𝓤 (𝓣 .C #answers·tell-view) (TellView 𝓤 H A mem run)
       → Walks 𝓤 H A it.ended stayed (WpFn 𝓤 H (𝓣 .C) (𝓣 .Λ) code.function) (it.clauses 𝓤 H A mem run)
   walks 𝓣 k₁ k₂ k₃ = walked 𝓤 H A it.ended stayed (it.clauses 𝓤 H A mem run) (WpFn 𝓤 H (𝓣 .C) (𝓣 .Λ) code.function)
       (λ κs. (slice-vals, (uint-vals w64, (uint-vals w64, (slice-vals, (uint-vals w64, (slice-vals, (slice-vals, (slice-vals, (ptr-vals, tt))))))))))
@@ -244,7 +244,7 @@ module _ {M : Type 1} (𝓤 : URA M) (H : Heap 𝓤) (A : Atoms 𝓤) (W : Given
       (are .0 .0 .1) (are .1 .0 .1) (are .1 .1 .0 .1) (are .1 .1 .1 .0 .0 .1) (are .1 .1 .1 .1 .0 .1) (are .1 .1 .1 .1 .1 .0 .0 .1) (are .1 .1 .1 .1 .1 .1 .0 .0 .1) (are .1 .1 .1 .1 .1 .1 .1 .0 .0 .1) 𝓣 k₁ k₂ k₃))
 
 meets : {M : Type 1} (𝓤 : URA M) (H : Heap 𝓤) (A : Atoms 𝓤) (W : Given 𝓤 H A) (mem : Memory → SProp 𝓤) (run : Routine → Fun 𝓤) (𝓣 : Tables 𝓤 H)
-    → Triple 𝓤 (𝓣 .C #types·new-id) (NewId 𝓤 H A mem run) → Triple 𝓤 (𝓣 .C #turbine·new) (New 𝓤 H A mem run) → Triple 𝓤 (𝓣 .C #valwydr·tell-view) (TellView 𝓤 H A mem run)
+    → Triple 𝓤 (𝓣 .C #types·new-id) (NewId 𝓤 H A mem run) → Triple 𝓤 (𝓣 .C #turbine·new) (New 𝓤 H A mem run) → Triple 𝓤 (𝓣 .C #answers·tell-view) (TellView 𝓤 H A mem run)
     → Meets 𝓤 H A it.signature (WpFn 𝓤 H (𝓣 .C) (𝓣 .Λ) code.function) (it.spec 𝓤 H A mem run)
 meets 𝓤 H A W mem run 𝓣 k₁ k₂ k₃ = walk-meets 𝓤 H A it.ended stayed W
     (goes-none-slice 𝓤 H A W 6 (0 ∷ []) tt (plain (λ _. u64)) yes, (goes-none 𝓤 H A W 6 (λ _. usize) yes (λ κs x f. refl), (goes-none 𝓤 H A W 6 (λ _. u64) yes (λ κs x f. refl), (goes-none-slice 𝓤 H A W 6 (1 ∷ []) tt (plain (λ _. u64)) yes, (goes-none 𝓤 H A W 6 (λ _. usize) yes (λ κs x f. refl), (goes-slice 𝓤 H A W 6 2 tt (plain (λ _. u64)), (goes-slice 𝓤 H A W 6 3 tt (plain (λ _. N.the-row)), (goes-slice 𝓤 H A W 6 4 tt (plain (λ _. u64)), (goes-ref 𝓤 H A W 6 5 tt (ArrayOf (plain (λ _. u64)) (λ _. tt) 4), tt)))))))))
@@ -258,4 +258,4 @@ valwydr-turbine-tree-new-spec 𝓤 H 𝓜 𝓖 𝓡 =
     (meets 𝓤 H (𝓖 .A) (givenOf 𝓤 H 𝓜 𝓖) (𝓜 .mem) (𝓡 .run) (tablesOf 𝓤 H 𝓜 (tables 𝓤 H 𝓜 𝓡 code.env))
     (cited 𝓤 H (NewId 𝓤 H (𝓖 .A) (𝓜 .mem) (𝓡 .run)) 𝓜 𝓡 code.env #types·new-id new-id-def.routine code.calls-types·validator-index·ValidatorIndex·new (new-id-thm.met 𝓤 H 𝓜 𝓖 𝓡))
     (cited 𝓤 H (New 𝓤 H (𝓖 .A) (𝓜 .mem) (𝓡 .run)) 𝓜 𝓡 code.env #turbine·new new-def.routine code.calls-turbine·turbine-tree·TurbineTree·new (new-thm.met 𝓤 H 𝓜 𝓖 𝓡))
-    (cited 𝓤 H (TellView 𝓤 H (𝓖 .A) (𝓜 .mem) (𝓡 .run)) 𝓜 𝓡 code.env #valwydr·tell-view tell-view-def.routine code.calls-valwydr·answers·tell-view (tell-view-thm.met 𝓤 H 𝓜 𝓖 𝓡)))
+    (cited 𝓤 H (TellView 𝓤 H (𝓖 .A) (𝓜 .mem) (𝓡 .run)) 𝓜 𝓡 code.env #answers·tell-view tell-view-def.routine code.calls-answers·tell-view (tell-view-thm.met 𝓤 H 𝓜 𝓖 𝓡)))

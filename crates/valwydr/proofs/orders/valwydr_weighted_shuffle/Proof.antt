@@ -52,12 +52,12 @@ use Rattle.weighted_shuffle.proofs.EntryCalls.{Shuffle, calls-shuffle}
 use Rattle.weighted_shuffle.proofs.shuffle.shuffle.Symbol as shuffle-def
 use Rattle.weighted_shuffle.proofs.shuffle.shuffle.Symbol.{name as #weighted-shuffle·shuffle}
 use Rattle.weighted_shuffle.proofs.shuffle.shuffle.Met as shuffle-thm
-use Rattle.valwydr.specs.Told.{result, array, shuffleTold}
+use Rattle.answers.specs.Told.{result, array, shuffleTold}
 use Rattle.valwydr.proofs.RefCalls.{Refers}
 use Rattle.valwydr.proofs.TellCalls.{TellOrder, calls-tell-order}
-use Rattle.valwydr.proofs.answers.tell_order.Symbol as tell-order-def
-use Rattle.valwydr.proofs.answers.tell_order.Symbol.{name as #valwydr·tell-order}
-use Rattle.valwydr.proofs.answers.tell_order.Met as tell-order-thm
+use Rattle.answers.proofs.tell_order.Symbol as tell-order-def
+use Rattle.answers.proofs.tell_order.Symbol.{name as #answers·tell-order}
+use Rattle.answers.proofs.tell_order.Met as tell-order-thm
 use Rattle.valwydr.proofs.orders.valwydr_weighted_shuffle.Key.{name as #valwydr·weighted-shuffle}
 use Rattle.valwydr.proofs.orders.valwydr_weighted_shuffle as it
 use Rattle.valwydr.proofs.orders.valwydr_weighted_shuffle.Statement as stated
@@ -134,7 +134,7 @@ module _ {M : Type 1} (𝓤 : URA M) (H : Heap 𝓤) (A : Atoms 𝓤) (W : Given
       nothing ! $ move ! (3 ∷ 0 ∷ []) $ fjoin ! $ move ! (2 ∷ 0 ∷ []) $ fjoin ! $ move ! (1 ∷ 0 ∷ []) $ fjoin ! $ owned ! usize (Is usize) (uint-makes 𝓤 H A W w64) cursor _ (refl, cursor-fits) $ fjoin ! $ move ! (2 ∷ 0 ∷ []) $ fjoin ! $ move ! (1 ∷ 0 ∷ []) $ fjoin ! $ frame ! $
       owned ! u64 (Is u64) (uint-makes 𝓤 H A W w64) r _ is $ done !
 
-  module _ (𝓣 : Tables 𝓤 H) (known-shuffle : Triple 𝓤 (𝓣 .C #weighted-shuffle·shuffle) (Shuffle 𝓤 H A mem run)) (known-tell-order : Triple 𝓤 (𝓣 .C #valwydr·tell-order) (TellOrder 𝓤 H A mem run)) where
+  module _ (𝓣 : Tables 𝓤 H) (known-shuffle : Triple 𝓤 (𝓣 .C #weighted-shuffle·shuffle) (Shuffle 𝓤 H A mem run)) (known-tell-order : Triple 𝓤 (𝓣 .C #answers·tell-order) (TellOrder 𝓤 H A mem run)) where
     abbrev C : Calls 𝓤 H
     C = 𝓣 .C
 
@@ -197,7 +197,7 @@ module _ {M : Type 1} (𝓤 : URA M) (H : Heap 𝓤) (A : Atoms 𝓤) (W : Given
         frees-all l₀ l₁ l₂ l₃ l₄ l₅ l₆ l₇ l₈ l₉ l₁₀ l₁₁ l₁₂ ord zs an r (vint w64 r) (refl, fits) (record { order-long = ord-long; nodes-long = zs-long; result-is = e₄ ∙ ap (λ (x : ShuffleAnswer). result (shuffleTold x)) e₁; order-is = e₂; nodes-are = e₃; answer-is = e₅ ∙ ap (λ (x : ShuffleAnswer). array (shuffleTold x) answer) e₁ }))))))))))))))))
 
 module _ {M : Type 1} (𝓤 : URA M) (H : Heap 𝓤) (A : Atoms 𝓤) (W : Given 𝓤 H A) (mem : Memory → SProp 𝓤) (run : Routine → Fun 𝓤) where
-  walks : (𝓣 : Tables 𝓤 H) → Triple 𝓤 (𝓣 .C #weighted-shuffle·shuffle) (Shuffle 𝓤 H A mem run) → Triple 𝓤 (𝓣 .C #valwydr·tell-order) (TellOrder 𝓤 H A mem run)
+  walks : (𝓣 : Tables 𝓤 H) → Triple 𝓤 (𝓣 .C #weighted-shuffle·shuffle) (Shuffle 𝓤 H A mem run) → Triple 𝓤 (𝓣 .C #answers·tell-order) (TellOrder 𝓤 H A mem run)
       → Walks 𝓤 H A it.ended stayed (WpFn 𝓤 H (𝓣 .C) (𝓣 .Λ) code.function) (it.clauses 𝓤 H A mem run)
   walks 𝓣 k₁ k₂ = walked 𝓤 H A it.ended stayed (it.clauses 𝓤 H A mem run) (WpFn 𝓤 H (𝓣 .C) (𝓣 .Λ) code.function)
       (λ κs. (slice-vals, (slice-vals, (uint-vals w64, (slice-vals, (slice-vals, (ptr-vals, tt)))))))
@@ -210,7 +210,7 @@ module _ {M : Type 1} (𝓤 : URA M) (H : Heap 𝓤) (A : Atoms 𝓤) (W : Given
       (are .0 .0 .1) (are .1 .0 .0 .1) (are .1 .1 .0 .1) (are .1 .1 .1 .0 .0 .1) (are .1 .1 .1 .1 .0 .0 .1) 𝓣 k₁ k₂))
 
 meets : {M : Type 1} (𝓤 : URA M) (H : Heap 𝓤) (A : Atoms 𝓤) (W : Given 𝓤 H A) (mem : Memory → SProp 𝓤) (run : Routine → Fun 𝓤) (𝓣 : Tables 𝓤 H)
-    → Triple 𝓤 (𝓣 .C #weighted-shuffle·shuffle) (Shuffle 𝓤 H A mem run) → Triple 𝓤 (𝓣 .C #valwydr·tell-order) (TellOrder 𝓤 H A mem run)
+    → Triple 𝓤 (𝓣 .C #weighted-shuffle·shuffle) (Shuffle 𝓤 H A mem run) → Triple 𝓤 (𝓣 .C #answers·tell-order) (TellOrder 𝓤 H A mem run)
     → Meets 𝓤 H A it.signature (WpFn 𝓤 H (𝓣 .C) (𝓣 .Λ) code.function) (it.spec 𝓤 H A mem run)
 meets 𝓤 H A W mem run 𝓣 k₁ k₂ = walk-meets 𝓤 H A it.ended stayed W
     (goes-none-slice 𝓤 H A W 5 (0 ∷ []) tt (plain (λ _. u64)) yes, (goes-none-slice 𝓤 H A W 5 (1 ∷ []) tt (plain (λ _. u64)) yes, (goes-none 𝓤 H A W 5 (λ _. usize) yes (λ κs x f. refl), (goes-slice 𝓤 H A W 5 2 tt (plain (λ _. u64)), (goes-slice 𝓤 H A W 5 3 tt (plain (λ _. N.the-row)), (goes-ref 𝓤 H A W 5 4 tt (ArrayOf (plain (λ _. u64)) (λ _. tt) 1), tt))))))
@@ -223,4 +223,4 @@ valwydr-weighted-shuffle-spec 𝓤 H 𝓜 𝓖 𝓡 =
     (tables 𝓤 H 𝓜 𝓡 code.env .C) (tables 𝓤 H 𝓜 𝓡 code.env .Λ) #valwydr·weighted-shuffle code.function (code.unfolded 𝓤 H 𝓜 𝓡)
     (meets 𝓤 H (𝓖 .A) (givenOf 𝓤 H 𝓜 𝓖) (𝓜 .mem) (𝓡 .run) (tablesOf 𝓤 H 𝓜 (tables 𝓤 H 𝓜 𝓡 code.env))
     (cited 𝓤 H (Shuffle 𝓤 H (𝓖 .A) (𝓜 .mem) (𝓡 .run)) 𝓜 𝓡 code.env #weighted-shuffle·shuffle shuffle-def.routine code.calls-weighted-shuffle·shuffle·shuffle (shuffle-thm.met 𝓤 H 𝓜 𝓖 𝓡))
-    (cited 𝓤 H (TellOrder 𝓤 H (𝓖 .A) (𝓜 .mem) (𝓡 .run)) 𝓜 𝓡 code.env #valwydr·tell-order tell-order-def.routine code.calls-valwydr·answers·tell-order (tell-order-thm.met 𝓤 H 𝓜 𝓖 𝓡)))
+    (cited 𝓤 H (TellOrder 𝓤 H (𝓖 .A) (𝓜 .mem) (𝓡 .run)) 𝓜 𝓡 code.env #answers·tell-order tell-order-def.routine code.calls-answers·tell-order (tell-order-thm.met 𝓤 H 𝓜 𝓖 𝓡)))
