@@ -1,5 +1,6 @@
 #!/usr/bin/env bash
 # Checks the oracle and the model: `check.sh model`, `check.sh oracle`, `check.sh compare`, or all three where nothing is named.
+# `check.sh build` builds the oracle and checks nothing.
 # What this machine lacks is said in a line and passed over.
 set -euo pipefail
 
@@ -10,15 +11,7 @@ binary=target/oracle/release/oracle
 cases=20000
 export CARGO_TARGET_DIR=$root/target/oracle PYTHONDONTWRITEBYTECODE=1
 
-# Says that a check is passed over, and why.
-skip() {
-    echo "$1: skipped, $2"
-}
-
-# Whether a program is there.
-has() {
-    command -v "$1" >/dev/null
-}
+source oracle/lacks.sh
 
 # The model's own tests, and the stored lists against the model.
 check_model() {
@@ -27,10 +20,22 @@ check_model() {
     python3 oracle/model/store.py --check
 }
 
+# Whether the oracle can be built; says what is lacking.
+can_build() {
+    [[ -d $sources ]] || { skip oracle "there is no folder '$sources' with the commit's files"; return 1; }
+    has cargo || { skip oracle "cargo is not installed"; return 1; }
+}
+
+# The oracle's binary alone.
+check_build() {
+    can_build || return 0
+    (cd oracle && cargo build --release --offline --quiet)
+    echo "oracle: built $binary"
+}
+
 # The commit's files against their hashes; the oracle's layout, tests and build.
 check_oracle() {
-    [[ -d $sources ]] || { skip oracle "there is no folder '$sources' with the commit's files"; return 0; }
-    has cargo || { skip oracle "cargo is not installed"; return 0; }
+    can_build || return 0
     (cd "$sources" && sha256sum --check --strict --quiet "$root/oracle/sources.sha256")
     cd oracle
     if has rustfmt; then
@@ -39,9 +44,8 @@ check_oracle() {
         rustfmt --check --edition 2024 alpenglow/probes/*.rs
     fi
     cargo test --release --offline --quiet
-    cargo build --release --offline --quiet
     cd ..
-    echo "oracle: built $binary"
+    check_build
 }
 
 # The oracle against the model.

@@ -658,6 +658,34 @@ def relay_cases():
         yield case("relay", seats=seats, shred=rng.randrange(72))
 
 
+# ---- Counts, sizes and stakes ----
+
+def size_and_reset_cases():
+    """Sizes about each power of sixteen; counts of each length."""
+    powers = [16**i for i in range(16)]
+    for count in sorted({0, *powers, *(p - 1 for p in powers), *(p + 1 for p in powers[:-1])}):
+        yield case("sizes", count=count)
+    for n in range(1, 6):
+        yield case("reset", counts=[i * MAX_COUNT // n for i in range(1, n + 1)])
+
+
+def stake_cases():
+    """Numbers about each limit, with each other; sums to the top and past it; every number of
+    digits."""
+    numbers = (0, 1, 2, 3, 10, 2**32 - 1, 2**32, 2**32 + 1, HALF - 1, HALF, HALF + 1, TOP - 1, TOP)
+    for stake in numbers:
+        for other in numbers:
+            yield case("div_ceil", stake=stake, divisor=other)
+            for operation in ("checked_add", "sub", "mul"):
+                yield case(operation, stake=stake, rhs=other)
+            yield case("sum", stakes=[stake, 0, other])
+    for n in (0, 1, 4_096, 4_097):
+        yield case("sum", stakes=[TOP // max(n, 1)] * n)
+    for number in sorted({0, TOP, *(10**i - 1 for i in range(20)), *(10**i for i in range(20))}):
+        yield case("stake_fmt", stake=number)
+        yield case("index_fmt", id=number)
+
+
 def turbine_cases():
     for limit in (small_views, long_views, word_views, refused_views, seed_cases, relay_cases):
         yield from limit()
@@ -670,14 +698,14 @@ LIMITS = (length_cases, size_cases, sum_cases, worked_cases, whole_seat_cases, n
 
 
 def cases(n):
-    """About n cases: the limits, all of them for any n, then random ones. The limits of the shuffle
-    and of views, seeds and relays come last and are not among the n, so that the random cases stay
-    the same."""
+    """About n cases: the limits, all of them for any n, then random ones. The limits of the shuffle,
+    of views, seeds and relays, and of sizes and stakes come last and are not among the n, so that
+    the random cases stay the same."""
     rng = random.Random(SEED)
     lines = [line for limit in LIMITS for line in limit(rng)]
     while len(lines) < n:
         lines.append(rng.choice(GENERATORS)(rng))
-    return [*lines, *shuffle_cases(), *turbine_cases()]
+    return [*lines, *shuffle_cases(), *turbine_cases(), *size_and_reset_cases(), *stake_cases()]
 
 
 def main():

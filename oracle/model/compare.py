@@ -30,7 +30,7 @@ DECAYING = {"decaying", "decaying_one"}
 FA1 = {"fa1_bins", "fa1_draws"}
 OWN_SUMS = FA1 | {"partition"}
 SAMPLERS = OWN_SUMS | DECAYING | {"iid"}
-NEW_TO_THE_RUST = {"remainder"}
+NEW_TO_THE_RUST = {"remainder", "whole_order"}
 
 
 class Case:
@@ -98,6 +98,17 @@ def empty_bin(case):
 def floors_differ(case):
     return (case.has_fa1_seats()
             and exact_floors(case) != rust_fixed_seats(case.stakes, case.size))
+
+
+def no_stake(case):
+    """Whether no stake is the result of arithmetic that is not checked in the Rust."""
+    fields = case.fields
+    if case.operation == "div_ceil":
+        return fields["divisor"] == 0
+    if case.operation == "sub":
+        return fields["stake"] < fields["rhs"]
+    past = {"mul": lambda: fields["stake"] * fields["rhs"], "sum": lambda: case.total}
+    return case.operation in past and past[case.operation]() >= WORD_END
 
 
 def product_wraps(case):
@@ -169,6 +180,9 @@ KINDS = (
     Kind("samples * total_stake wraps",
          '"`samples * total_stake` may pass 64 bits".',
          product_wraps),
+    Kind("CheckedStake::None",
+         "arithmetic that has no stake as its result wraps there, or panics for a divisor of 0.",
+         no_stake),
 )
 
 
@@ -213,10 +227,11 @@ def rust_refuse_if(lifted, exact=model.refuse_if):
 
 @contextmanager
 def rust_ways(case):
-    """The limits of ours are lifted; FA1 and the partition take any total."""
+    """The limits of ours are lifted; FA1 and the partition take any total, and arithmetic wraps."""
     lifted = {1, 2, 4, 5, 6, 10} | ({8, 9} if case.operation in OWN_SUMS else set())
     with patch.multiple(model, refuse_if=rust_refuse_if(lifted), fixed_seats=rust_fixed_seats,
                         kept_stakes=rust_kept_stakes, partition_seats=rust_partition_seats,
+                        checked=lambda number: number % WORD_END,
                         f64_of=lambda bits, exact=model.f64_of: DividingF64(exact(bits))):
         yield
 
@@ -225,6 +240,8 @@ def predicted(case):
     """The oracle's answer by the known kinds, or None if sums wrap."""
     if case.allowed != MAX_TRIES or case.position >= TOTAL_SHREDS:
         # It cannot be asked there.
+        return "panic"
+    if case.operation == "div_ceil" and case.fields["divisor"] == 0:
         return "panic"
     if case.operation == "fa1_draws" and not case.stakes:
         # Its weighted sampler is made even if no seat is drawn.

@@ -243,6 +243,19 @@ def eight_bytes(number):
     return list(number.to_bytes(8, "big"))
 
 
+# ---- Stakes ----
+
+def checked(number):
+    """A stake is a number of 64 bits."""
+    return number if 0 <= number < WORD_END else "none"
+
+
+def digits_within(room, number):
+    """The decimal digits in ASCII; none where a buffer is lent and is shorter."""
+    digits = list(str(number).encode())
+    return "none" if is_short(room, len(digits)) else digits
+
+
 # ---- Reasons to turn a call down, from the input ----
 
 def is_short(room, needed):
@@ -405,6 +418,11 @@ def answer_decaying_one(stakes, max_samples, allowed, counts, words, cursor=0):
 
 
 @operation
+def answer_reset(counts):
+    return {"counts": reset_counts(counts)}
+
+
+@operation
 def answer_tree(stakes):
     counted = counted_weights(stakes)
     num_nodes, size = tree_shape(len(stakes))
@@ -413,8 +431,13 @@ def answer_tree(stakes):
 
 
 @operation
-def answer_shuffle(stakes, words, cursor=0, room=None):
-    check_shuffle(stakes, room)
+def answer_sizes(count):
+    return dict(zip(("num_nodes", "size"), tree_shape(count)))
+
+
+@operation
+def answer_shuffle(stakes, words, cursor=0, room=None, room_nodes=None):
+    check_shuffle(stakes, room, room_nodes)
     words = words.past(cursor)
     return {"order": shuffle_order(stakes, words), "read": words.read}
 
@@ -424,9 +447,10 @@ def answer_turbine(stakes, fanout, own, words, cursor=0, room=None, room_nodes=N
                    room_children=None):
     check_view(stakes, fanout, own, room, room_nodes, room_children)
     words = words.past(cursor)
-    root, parent, children = view(shuffle_order(stakes, words), fanout, own)
+    order = shuffle_order(stakes, words)
+    root, parent, children = view(order, fanout, own)
     return {"root": root, "parent": "none" if parent is None else parent,
-            "children": children, "read": words.read}
+            "children": children, "read": words.read, "whole_order": order}
 
 
 @operation
@@ -446,6 +470,41 @@ def answer_relay(seats, shred):
     """The seat at a shred position."""
     check_relay(seats, shred)
     return {"id": seats[shred]}
+
+
+@operation
+def answer_div_ceil(stake, divisor):
+    return {"result": checked(-(-stake // divisor)) if divisor > 0 else "none"}
+
+
+@operation
+def answer_checked_add(stake, rhs):
+    return {"result": checked(stake + rhs)}
+
+
+@operation
+def answer_sub(stake, rhs):
+    return {"result": checked(stake - rhs)}
+
+
+@operation
+def answer_mul(stake, rhs):
+    return {"result": checked(stake * rhs)}
+
+
+@operation
+def answer_sum(stakes):
+    return {"result": checked(sum(stakes))}
+
+
+@operation
+def answer_stake_fmt(stake, room=None):
+    return {"bytes": digits_within(room, stake)}
+
+
+@operation
+def answer_index_fmt(id, room=None):
+    return {"bytes": digits_within(room, id)}
 
 
 # ---- Cases and answers as lines ----

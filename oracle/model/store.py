@@ -107,9 +107,9 @@ def read_line(line):
 def answer_of(function, operation, given):
     """The fields of the model's answer as they are stored."""
     if function == "reset":
-        return {"counts": model.reset_counts(given["counts"])}
+        return model.answer_fields("reset", given)
     if function == "get_num_nodes_and_tree_size":
-        return dict(zip(("num_nodes", "size"), model.tree_shape(given["count"])))
+        return model.answer_fields("sizes", given)
     if function == "begin":
         model.check_shuffle(**given)
         tree = model.answer_fields(operation, {"stakes": given["stakes"]})
@@ -132,11 +132,10 @@ def answer_of(function, operation, given):
 def view_answer(operation, given):
     """With the parent as two numbers, and the whole order."""
     answer = model.answer_fields(operation, given)
-    words = model.Words(given["words"]).past(given["cursor"])
-    parent = answer.pop("parent")
+    parent, order = answer.pop("parent"), answer.pop("whole_order")
     parents = (0, 0) if parent == "none" else (1, parent)
     return {"root": answer.pop("root"), **dict(zip(("has_parent", "parent"), parents)), **answer,
-            "order": model.shuffle_order(given["stakes"], words)}
+            "order": order}
 
 
 def answered(function, operation, given):
@@ -316,7 +315,7 @@ def lists():
     return texts
 
 
-# The fields of the operations whose stored cases are compared, in the order of FORMAT.md.
+# The fields of the operations that the oracle is asked, in the order of FORMAT.md.
 COMPARED_FIELDS = {
     "iid": ("stakes", "k", "words"),
     "decaying": ("stakes", "k", "max_samples", "allowed", "counts", "words"),
@@ -324,22 +323,28 @@ COMPARED_FIELDS = {
     "partition": ("stakes", "bins", "words", "words2"),
     "fa1_bins": ("stakes", "k", "words", "words2"),
     "fa1_draws": ("stakes", "k", "words"),
+    "reset": ("counts",),
     "tree": ("stakes",),
+    "sizes": ("count",),
     "shuffle": ("stakes", "words"),
     "turbine": ("stakes", "fanout", "own", "words"),
     "turbine_seed": ("slot", "shred"),
     "rotor_seed": ("slot", "slice"),
     "relay": ("seats", "shred"),
+    "div_ceil": ("stake", "divisor"),
+    **dict.fromkeys(("checked_add", "sub", "mul"), ("stake", "rhs")),
+    "sum": ("stakes",),
+    "stake_fmt": ("stake",),
+    "index_fmt": ("id",),
 }
 
 
 def as_compared(operation, given):
-    """A stored case as the oracle takes it: the words from the cursor on, the list's counts, and
-    zeros where only their number counts."""
-    fields = {"k": 1, "stakes": [0] * given.get("count", 0), **given}
+    """A case as the oracle takes it: the words from the cursor on, and the list's counts."""
+    fields = {"k": 1, **given}
     for which in word_lists(given):
         fields["words" + which] = given["words" + which][given["cursor" + which]:]
-    if "counts" in given:
+    if "counts" in given and "stakes" in given:
         fields["counts"] = given["counts"][:len(given["stakes"])]
     names = COMPARED_FIELDS[operation]
     return model.write_fields(operation, {name: fields[name] for name in names})
@@ -359,7 +364,8 @@ def compared_lines():
         for line in (CRATES / program / "stdin").read_text().splitlines():
             function, stored = read_line(line)
             if function != "reset" and not is_short(function, stored.given):
-                lines.append(as_compared(PROGRAMS[program][function], stored.given))
+                operation = "sizes" if "count" in stored.given else PROGRAMS[program][function]
+                lines.append(as_compared(operation, stored.given))
     return lines
 
 

@@ -389,9 +389,10 @@ class Turbine(unittest.TestCase):
     def test_2_0_3(self):
         answers = [ask("turbine", stakes=[2, 0, 3], fanout=2, own=own, words=[4, 1, 0])
                    for own in range(3)]
-        self.assertEqual(answers[2], {"root": 2, "parent": "none", "children": [0, 1], "read": 3})
+        same = {"root": 2, "read": 3, "whole_order": [2, 0, 1]}
+        self.assertEqual(answers[2], {**same, "parent": "none", "children": [0, 1]})
         for own in (0, 1):
-            self.assertEqual(answers[own], {"root": 2, "parent": 2, "children": [], "read": 3})
+            self.assertEqual(answers[own], {**same, "parent": 2, "children": []})
 
     def test_fanout_1_is_a_chain(self):
         answer = ask("turbine", stakes=[2, 0, 3], fanout=1, own=0, words=[4, 1, 0])
@@ -400,7 +401,8 @@ class Turbine(unittest.TestCase):
     def test_one_validator(self):
         for stake in (0, 5):
             answer = ask("turbine", stakes=[stake], fanout=200, own=0, words=[9])
-            self.assertEqual(answer, {"root": 0, "parent": "none", "children": [], "read": 1})
+            self.assertEqual(answer, {"root": 0, "parent": "none", "children": [], "read": 1,
+                                      "whole_order": [0]})
 
     def test_words_run_out(self):
         for n in range(3):
@@ -786,6 +788,34 @@ class Properties(unittest.TestCase):
             self.assertEqual(raised, [int(v == answer["seat"]) for v in range(n)])
 
 
+class Stakes(unittest.TestCase):
+    def result(self, operation, **fields):
+        return ask(operation, **fields)["result"]
+
+    def test_div_ceil(self):
+        for stake, divisor, result in ((0, 5, 0), (7, 2, 4), (8, 2, 4), (TOP, 1, TOP), (TOP, 2, HALF),
+                                       (TOP, TOP, 1), (1, TOP, 1), (0, 0, "none"), (7, 0, "none")):
+            self.assertEqual(self.result("div_ceil", stake=stake, divisor=divisor), result)
+
+    def test_results_that_just_fit_and_do_not(self):
+        for operation, stake, rhs, result in (
+                ("checked_add", TOP - 1, 1, TOP), ("checked_add", TOP, 1, "none"),
+                ("sub", 3, 3, 0), ("sub", 2, 3, "none"), ("sub", TOP, TOP - 1, 1),
+                ("mul", 2**32 - 1, 2**32 + 1, TOP), ("mul", 2**32, 2**32, "none"),
+                ("mul", TOP, 0, 0)):
+            self.assertEqual(self.result(operation, stake=stake, rhs=rhs), result)
+        for stakes, result in (([], 0), ([TOP, 0], TOP), ([HALF, HALF - 1], TOP),
+                               ([HALF, HALF], "none"), ([TOP, 1, 0], "none")):
+            self.assertEqual(self.result("sum", stakes=stakes), result)
+
+    def test_digits(self):
+        for number, digits in ((0, b"0"), (10, b"10"), (TOP, b"18446744073709551615")):
+            self.assertEqual(ask("stake_fmt", stake=number), {"bytes": list(digits)})
+            self.assertEqual(ask("index_fmt", id=number), {"bytes": list(digits)})
+            self.assertEqual(ask("stake_fmt", stake=number, room=len(digits))["bytes"], list(digits))
+            self.assertEqual(ask("stake_fmt", stake=number, room=len(digits) - 1)["bytes"], "none")
+
+
 class Lines(unittest.TestCase):
     def test_answers(self):
         for line, answer in (
@@ -794,7 +824,7 @@ class Lines(unittest.TestCase):
                 ("weighted weights=0,2,3 words=4", "ok place=2 remainder=2 read=1"),
                 ("iid stakes=1 k=0 words=-", "ok seats=- read=0"),
                 ("turbine stakes=2,0,3 fanout=2 own=2 words=4,1,0",
-                 "ok root=2 parent=none children=0,1 read=3"),
+                 "ok root=2 parent=none children=0,1 read=3 whole_order=2,0,1"),
                 (f"decaying_one stakes=1 max_samples={model.bits_of(2.0)} allowed=1 counts=1 "
                  f"words=0,{HALF}", "ok seat=0 counts=2 tries=1 read=2"),
                 ("shuffle stakes=- words=-", "ok order=- read=0"),
@@ -805,8 +835,8 @@ class Lines(unittest.TestCase):
     def test_all_operations(self):
         self.assertEqual(" ".join(model.OPERATIONS),
                          "below fraction weighted list_shuffle iid partition fa1_bins fa1_draws "
-                         "decaying decaying_one tree shuffle turbine turbine_seed rotor_seed "
-                         "relay")
+                         "decaying decaying_one reset tree sizes shuffle turbine turbine_seed "
+                         "rotor_seed relay div_ceil checked_add sub mul sum stake_fmt index_fmt")
 
 
 class StoredLists(unittest.TestCase):

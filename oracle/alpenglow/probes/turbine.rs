@@ -1,7 +1,7 @@
 //! Reaches the Turbine tree, and passes on the probe of its private module.
 
 use super::TurbineTree;
-pub use super::weighted_shuffle::probe::{Tree, order, tree};
+pub use super::weighted_shuffle::probe::{Tree, order, sizes, tree};
 use crate::{Slot, ValidatorIndex, validators};
 
 /// What a Turbine tree tells one validator.

@@ -2,7 +2,7 @@
 
 use rand::Rng;
 
-use super::WeightedShuffle;
+use super::{WeightedShuffle, get_num_nodes_and_tree_size};
 use crate::Stake;
 
 /// A tree as it is built; the sums are those of node 0, then of node 1, and on.
@@ -24,6 +24,11 @@ pub fn tree(stakes: &[u64]) -> Tree {
         weight: shuffle.weight.inner(),
         zeros: shuffle.zeros,
     }
+}
+
+/// The number of nodes and the size of the tree, for a number of weights.
+pub fn sizes(count: usize) -> (usize, usize) {
+    get_num_nodes_and_tree_size(count)
 }
 
 pub fn order(stakes: &[u64], rng: &mut impl Rng) -> Vec<usize> {

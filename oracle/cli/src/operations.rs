@@ -4,6 +4,7 @@ mod draws;
 mod relays;
 mod samplers;
 mod seeds;
+mod stakes;
 mod turbine;
 
 use crate::answer::Answer;
@@ -25,7 +26,7 @@ const fn operation(
 }
 
 #[rustfmt::skip]
-const OPERATIONS: [Operation; 16] = [
+const OPERATIONS: [Operation; 25] = [
     operation("below", &["m", "words"], draws::below),
     operation("fraction", &["words"], draws::fraction),
     operation("weighted", &["weights", "words"], draws::weighted),
@@ -36,12 +37,21 @@ const OPERATIONS: [Operation; 16] = [
     operation("fa1_draws", &["stakes", "k", "words"], samplers::fa1_draws),
     operation("decaying", &["stakes", "k", "max_samples", "allowed", "counts", "words"], samplers::decaying),
     operation("decaying_one", &["stakes", "max_samples", "allowed", "counts", "words"], samplers::decaying_one),
+    operation("reset", &["counts"], samplers::reset),
     operation("tree", &["stakes"], turbine::tree),
+    operation("sizes", &["count"], turbine::sizes),
     operation("shuffle", &["stakes", "words"], turbine::shuffle),
     operation("turbine", &["stakes", "fanout", "own", "words"], turbine::view),
     operation("turbine_seed", &["slot", "shred"], seeds::turbine),
     operation("rotor_seed", &["slot", "slice"], seeds::rotor),
     operation("relay", &["seats", "shred"], relays::relay),
+    operation("div_ceil", &["stake", "divisor"], stakes::div_ceil),
+    operation("checked_add", &["stake", "rhs"], stakes::checked_add),
+    operation("sub", &["stake", "rhs"], stakes::sub),
+    operation("mul", &["stake", "rhs"], stakes::mul),
+    operation("sum", &["stakes"], stakes::sum),
+    operation("stake_fmt", &["stake"], stakes::stake_fmt),
+    operation("index_fmt", &["id"], stakes::index_fmt),
 ];
 
 /// The operation of this name.

@@ -181,6 +181,16 @@ fn decaying_seats() {
 }
 
 #[test]
+fn counts_are_reset() {
+    check(
+        "
+        reset counts=0,7,4294967295
+        ok counts=0,0,0
+        ",
+    );
+}
+
+#[test]
 fn an_allowance_may_be_used_up() {
     let case = "decaying_one stakes=1 max_samples=4607182418800017408 allowed=100000 counts=1";
     for (count, expected) in [
@@ -205,6 +215,24 @@ fn tree_sizes() {
             "{answer}"
         );
     }
+}
+
+#[test]
+fn sizes_of_any_count() {
+    check(
+        "
+        sizes count=0
+        ok num_nodes=1 size=0
+        sizes count=17
+        ok num_nodes=17 size=3
+        sizes count=65536
+        ok num_nodes=4369 size=4369
+        sizes count=1152921504606846976
+        ok num_nodes=76861433640456465 size=76861433640456465
+        sizes count=1152921504606846977
+        panic not run: the Rust does not end here
+        ",
+    );
 }
 
 #[test]
@@ -290,4 +318,42 @@ fn relays_of_every_shred_of_a_slice() {
         check(&format!("{}\nok id={}", case(shred), 100 + shred));
     }
     check(&format!("{}\npanic no shred index", case(64)));
+}
+
+#[test]
+fn arithmetic_on_stakes() {
+    check(
+        "
+        div_ceil stake=7 divisor=2
+        ok result=4
+        div_ceil stake=7 divisor=0
+        panic attempt to divide by zero
+        checked_add stake=18446744073709551614 rhs=1
+        ok result=18446744073709551615
+        checked_add stake=18446744073709551615 rhs=1
+        ok result=none
+
+        # these wrap
+        sub stake=2 rhs=3
+        ok result=18446744073709551615
+        mul stake=4294967297 rhs=4294967296
+        ok result=4294967296
+        sum stakes=18446744073709551615,3
+        ok result=2
+        sum stakes=-
+        ok result=0
+        ",
+    );
+}
+
+#[test]
+fn stakes_and_ids_are_written_in_digits() {
+    check(
+        "
+        stake_fmt stake=0
+        ok bytes=48
+        index_fmt id=109
+        ok bytes=49,48,57
+        ",
+    );
 }

@@ -55,6 +55,15 @@ pub fn decaying_one(case: &Case) -> Answer {
     with_counts(Answer::new().field("seat", seat), &sampler)
 }
 
+/// The sampler has as many validators as there are counts.
+pub fn reset(case: &Case) -> Answer {
+    let stored = case.list("counts");
+    let sampler = DecayingAcceptanceSampler::new(validators(&vec![1; stored.len()]), 1.0, 1);
+    set_counts(&sampler, usizes(stored));
+    sampler.reset();
+    Answer::new().list("counts", counts(&sampler))
+}
+
 fn committee(sampler: &impl QuorumSamplingStrategy, rng: &mut impl Rng) -> Answer {
     Answer::new().list("seats", sampler.sample_quorum(rng))
 }
@@ -103,9 +112,12 @@ fn decaying_sampler(case: &Case, k: usize) -> DecayingAcceptanceSampler {
     assert!(allowed == MAX_TRIES_PER_SAMPLE, "allowance is fixed");
     let max_samples = f64::from_bits(case.number("max_samples"));
     let sampler = DecayingAcceptanceSampler::new(validators(case.list("stakes")), max_samples, k);
-    let stored = case.list("counts").iter().map(|count| *count as usize);
-    set_counts(&sampler, stored.collect());
+    set_counts(&sampler, usizes(case.list("counts")));
     sampler
+}
+
+fn usizes(counts: &[u64]) -> Vec<usize> {
+    counts.iter().map(|count| *count as usize).collect()
 }
 
 /// The counts afterwards; each try begins with one weighted draw.

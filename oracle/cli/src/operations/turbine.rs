@@ -16,6 +16,16 @@ pub fn tree(case: &Case) -> Answer {
         .list("zeros", tree.zeros)
 }
 
+/// Past 2^60 the Rust's products wrap, and its loop does not end.
+pub fn sizes(case: &Case) -> Answer {
+    let count = case.index("count");
+    assert!(count <= 1 << 60, "not run: the Rust does not end here");
+    let (num_nodes, size) = probe::sizes(count);
+    Answer::new()
+        .field("num_nodes", num_nodes)
+        .field("size", size)
+}
+
 pub fn shuffle(case: &Case) -> Answer {
     let order = probe::order(case.list("stakes"), &mut rng());
     Answer::new().list("order", order).read()
