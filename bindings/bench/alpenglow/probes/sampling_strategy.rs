@@ -1,0 +1,1 @@
+../../../../oracle/alpenglow/probes/sampling_strategy.rs

@@ -1,0 +1,4 @@
+//! Draws from a range and draws by weight.
+
+pub mod uniform;
+pub mod weighted;
