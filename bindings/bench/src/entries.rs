@@ -4,6 +4,7 @@
 //! answer has four places, and what is written to is lent once.
 
 mod bins;
+mod calls;
 mod draws;
 mod small;
 mod turbine;
@@ -11,7 +12,7 @@ mod turbine;
 use alpenglow::{ValidatorIndex, ValidatorInfo};
 pub use bins::{Fa1Bins, Partition};
 pub use draws::{DecayingOne, DecayingQuorum, Fa1Draws, Iid, Sample};
-pub use small::{Relay, RotorSeed, Sizes, TurbineSeed};
+pub use small::{Relay, Seeds, Sizes};
 pub use turbine::{Order, View};
 
 use crate::input::Input;
@@ -87,9 +88,4 @@ impl Listed for Vec<ValidatorIndex> {
     fn list(&self) -> Vec<u64> {
         self.iter().map(|id| id.inner()).collect()
     }
-}
-
-/// Every call has to be accepted.
-fn accept(result: u64) {
-    assert_eq!(result, 0, "the library refused a call");
 }

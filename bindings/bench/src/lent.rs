@@ -16,7 +16,7 @@ pub struct Lent {
     pub order: Vec<u64>,
     pub nodes: Vec<Node>,
     pub children: Vec<u64>,
-    pub seed: [u8; 32],
+    pub seeds: [[u8; 32]; 2],
     pub answer: [u64; 4],
 }
 
@@ -31,7 +31,7 @@ impl Lent {
             order: vec![0; MOST_VALIDATORS],
             nodes: vec![[0; 16]; MOST_NODES],
             children: vec![0; MOST_VALIDATORS],
-            seed: [0; 32],
+            seeds: [[0; 32]; 2],
             answer: [0; 4],
         }
     }

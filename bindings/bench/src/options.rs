@@ -14,7 +14,7 @@ pub struct Options {
 impl Options {
     pub fn parse(mut words: impl Iterator<Item = String>) -> Result<Self, String> {
         let mut options = Self {
-            rounds: 1000,
+            rounds: 2000,
             stack: false,
             filter: String::new(),
         };

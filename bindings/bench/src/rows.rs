@@ -30,8 +30,7 @@ pub fn rows<M: Measure>(measure: &M, filter: &str) -> Vec<Row<M::Value>> {
     add::<Fa1Draws, M>(measure, filter, &mut rows);
     add::<Order, M>(measure, filter, &mut rows);
     add::<View, M>(measure, filter, &mut rows);
-    add::<TurbineSeed, M>(measure, filter, &mut rows);
-    add::<RotorSeed, M>(measure, filter, &mut rows);
+    add::<Seeds, M>(measure, filter, &mut rows);
     add::<Relay, M>(measure, filter, &mut rows);
     add::<Sizes, M>(measure, filter, &mut rows);
     rows

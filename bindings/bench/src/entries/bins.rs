@@ -4,9 +4,10 @@ use alpenglow::disseminator::rotor::sampling_strategy::{
     FaitAccompli1Sampler, PartitionSampler, QuorumSamplingStrategy,
 };
 use alpenglow::{ValidatorIndex, ValidatorInfo};
-use rand::{WORDS, Words, start_at};
+use rand::{Words, start_at};
 
-use super::{Entry, accept};
+use super::Entry;
+use super::calls::over_bins;
 use crate::ffi;
 use crate::input::{Input, second};
 use crate::lent::Lent;
@@ -64,56 +65,4 @@ impl Entry for Fa1Bins {
     fn draw(sampler: &mut Self::Sampler, _input: &Input, cursor: usize) -> Vec<ValidatorIndex> {
         sampler.sample_quorum(&mut Words::at(second(cursor)))
     }
-}
-
-/// A function of the library that draws a committee over bins, with an answer of so many places.
-type OverBins<const PLACES: usize> = unsafe extern "C" fn(
-    usize,
-    *const u64,
-    usize,
-    *const u64,
-    usize,
-    usize,
-    *const u64,
-    usize,
-    usize,
-    *mut u64,
-    usize,
-    *mut u64,
-    usize,
-    *mut u64,
-    usize,
-    *mut u64,
-    usize,
-    *mut [u64; PLACES],
-) -> u64;
-
-fn over_bins<const PLACES: usize>(
-    function: OverBins<PLACES>,
-    lent: &mut Lent,
-    input: &Input,
-    cursor: usize,
-) {
-    accept(unsafe {
-        function(
-            input.k,
-            input.stakes.as_ptr(),
-            input.stakes.len(),
-            WORDS.as_ptr(),
-            WORDS.len(),
-            cursor,
-            WORDS.as_ptr(),
-            WORDS.len(),
-            second(cursor),
-            lent.seats.as_mut_ptr(),
-            lent.seats.len(),
-            lent.piece_bins.as_mut_ptr(),
-            lent.piece_bins.len(),
-            lent.piece_validators.as_mut_ptr(),
-            lent.piece_validators.len(),
-            lent.piece_stakes.as_mut_ptr(),
-            lent.piece_stakes.len(),
-            lent.answer.as_mut_ptr().cast(),
-        )
-    });
 }

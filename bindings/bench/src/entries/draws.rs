@@ -8,7 +8,8 @@ use alpenglow::disseminator::rotor::sampling_strategy::{
 use alpenglow::{ValidatorIndex, ValidatorInfo};
 use rand::{WORDS, Words};
 
-use super::{Entry, Given, accept};
+use super::calls::{accept, by_draws};
+use super::{Entry, Given};
 use crate::ffi;
 use crate::input::Input;
 use crate::lent::Lent;
@@ -61,19 +62,7 @@ impl Entry for Iid {
     type Answer = Vec<ValidatorIndex>;
 
     fn ours(lent: &mut Lent, input: &Input, cursor: usize) {
-        accept(unsafe {
-            ffi::valwydr_iid_sample_quorum(
-                input.k,
-                input.stakes.as_ptr(),
-                input.stakes.len(),
-                WORDS.as_ptr(),
-                WORDS.len(),
-                cursor,
-                lent.seats.as_mut_ptr(),
-                lent.seats.len(),
-                lent.answer.as_mut_ptr().cast(),
-            )
-        });
+        by_draws(ffi::valwydr_iid_sample_quorum, lent, input, cursor);
     }
 
     fn make(validators: Vec<ValidatorInfo>, input: &Input, _cursor: usize) -> Self::Sampler {
@@ -97,19 +86,12 @@ impl Entry for Fa1Draws {
     type Answer = Vec<ValidatorIndex>;
 
     fn ours(lent: &mut Lent, input: &Input, cursor: usize) {
-        accept(unsafe {
-            ffi::valwydr_fait_accompli1_with_stake_weighted_fallback(
-                input.k,
-                input.stakes.as_ptr(),
-                input.stakes.len(),
-                WORDS.as_ptr(),
-                WORDS.len(),
-                cursor,
-                lent.seats.as_mut_ptr(),
-                lent.seats.len(),
-                lent.answer.as_mut_ptr().cast(),
-            )
-        });
+        by_draws(
+            ffi::valwydr_fait_accompli1_with_stake_weighted_fallback,
+            lent,
+            input,
+            cursor,
+        );
     }
 
     fn make(validators: Vec<ValidatorInfo>, input: &Input, _cursor: usize) -> Self::Sampler {

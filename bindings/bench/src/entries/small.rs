@@ -8,84 +8,55 @@ use alpenglow::shredder::{Shred, TOTAL_SHREDS};
 use alpenglow::{ValidatorIndex, ValidatorInfo};
 use rand::start_at;
 
-use super::{Entry, Iid, Listed, accept};
+use super::calls::{accept, write_seed};
+use super::{Entry, Iid, Listed};
 use crate::ffi;
 use crate::input::Input;
 use crate::lent::Lent;
 use crate::times::Side;
 
-/// The Rust makes a seed inside of the function that uses it: its expression is timed, as it stands there.
-pub struct TurbineSeed;
+/// The seed of a Turbine tree and that of a relay committee. The Rust makes each inside of the function that uses it: the
+/// expressions are timed, as they stand there.
+pub struct Seeds;
 
-impl Entry for TurbineSeed {
-    const NAME: &str = "seed of a Turbine tree";
+impl Entry for Seeds {
+    const NAME: &str = "both seeds";
     const LENGTHS: &'static [usize] = &[64];
     const RUST: &'static [Side] = &[Side::Draw];
 
     type Given = ();
     type Sampler = ();
-    type Answer = [u8; 32];
+    type Answer = [[u8; 32]; 2];
 
     fn ours(lent: &mut Lent, _input: &Input, cursor: usize) {
-        let slot = cursor as u64;
-        accept(unsafe {
-            ffi::valwydr_turbine_seed(slot, 63, lent.seed.as_mut_ptr(), lent.seed.len())
-        });
+        let [turbine, rotor] = &mut lent.seeds;
+        write_seed(ffi::valwydr_turbine_seed, turbine, cursor as u64, 63);
+        write_seed(ffi::valwydr_rotor_seed, rotor, cursor as u64, 63);
     }
 
     fn told(lent: &Lent, _input: &Input) -> Vec<u64> {
-        lent.seed.list()
+        lent.seeds.list()
     }
 
     fn make(_given: (), _input: &Input, _cursor: usize) {}
 
-    fn draw(_sampler: &mut (), _input: &Input, cursor: usize) -> [u8; 32] {
-        let (slot, shred) = (cursor as u64, black_box(63usize));
-        let seed = [
+    fn draw(_sampler: &mut (), _input: &Input, cursor: usize) -> [[u8; 32]; 2] {
+        let (slot, number) = (cursor as u64, black_box(63usize));
+        let turbine = [
             b"ALPENGLOWTURBINE",
             &slot.to_be_bytes()[..],
-            &shred.to_be_bytes()[..],
+            &number.to_be_bytes()[..],
         ]
         .concat();
-        seed.try_into().expect("32 bytes")
+        let rotor = [slot.to_be_bytes(), number.to_be_bytes(), [0; 8], [0; 8]].concat();
+        [turbine, rotor].map(|seed| seed.try_into().expect("32 bytes"))
     }
 }
 
-/// The same for a relay committee.
-pub struct RotorSeed;
-
-impl Entry for RotorSeed {
-    const NAME: &str = "seed of a relay committee";
-    const LENGTHS: &'static [usize] = &[64];
-    const RUST: &'static [Side] = &[Side::Draw];
-
-    type Given = ();
-    type Sampler = ();
-    type Answer = [u8; 32];
-
-    fn ours(lent: &mut Lent, _input: &Input, cursor: usize) {
-        let slot = cursor as u64;
-        accept(unsafe {
-            ffi::valwydr_rotor_seed(slot, 63, lent.seed.as_mut_ptr(), lent.seed.len())
-        });
-    }
-
-    fn told(lent: &Lent, _input: &Input) -> Vec<u64> {
-        lent.seed.list()
-    }
-
-    fn make(_given: (), _input: &Input, _cursor: usize) {}
-
-    fn draw(_sampler: &mut (), _input: &Input, cursor: usize) -> [u8; 32] {
-        let (slot, slice) = (cursor as u64, black_box(63usize));
-        let seed = [slot.to_be_bytes(), slice.to_be_bytes(), [0; 8], [0; 8]].concat();
-        seed.try_into().expect("32 bytes")
-    }
-}
-
-impl Listed for [u8; 32] {
+impl Listed for [[u8; 32]; 2] {
     fn list(&self) -> Vec<u64> {
-        self.iter().map(|byte| u64::from(*byte)).collect()
+        let bytes = self.as_flattened().iter();
+        bytes.map(|byte| u64::from(*byte)).collect()
     }
 }
 

@@ -3,7 +3,8 @@
 use alpenglow::disseminator::turbine::probe;
 use rand::{WORDS, Words, start_at};
 
-use super::{Entry, Listed, accept};
+use super::calls::{accept, write_seed};
+use super::{Entry, Listed};
 use crate::ffi;
 use crate::input::{FANOUT, Input};
 use crate::lent::Lent;
@@ -72,7 +73,7 @@ impl Entry for View {
     type Answer = probe::View;
 
     fn ours(lent: &mut Lent, input: &Input, cursor: usize) {
-        accept(unsafe { ffi::valwydr_turbine_seed(0, 0, lent.seed.as_mut_ptr(), lent.seed.len()) });
+        write_seed(ffi::valwydr_turbine_seed, &mut lent.seeds[0], 0, 0);
         accept(unsafe {
             ffi::valwydr_turbine_tree_new(
                 input.stakes.as_ptr(),
