@@ -1,19 +1,22 @@
 -- Laws of the place that a value chooses among weights, and of its remainder.
 use Prim.Native.Nat.{ℕ, zero, suc, _+_, _-_, _≤_, _<_}
-use mathlib.Core.Path.{_≡_, refl, sym, ap, _∙_}
+use mathlib.Core.Path.{_≡_, refl, sym, ap, subst, _∙_}
 use mathlib.Core.Bool.{Bool, true, false, cond}
 use mathlib.Core.List.{List, [], _∷_, _++_}
 use native.Mathlib.Omega.{arith}
 use lib.Dec.{ltb}
-use lib.ListN.{length, getD, take, length-append}
+use lib.ListN.{length, getD, take, drop, length-append}
 use lib.Seq.{take-length, take-at, take-append-le, take-append-add}
 use borrow.Author.Tests.{ltb-true, ltb-false, lt-ltb, le-ltb}
 use Rattle.laws.specs.Sums.{total, runningFrom, runningSums}
 use Rattle.laws.proofs.Sums.{total-append, total-take-suc, total-take-mono, length-running, running-at, running-rises}
+use Rattle.refusals.specs.declared.Summed.{Summed}
+use Rattle.refusals.specs.declared.Summed.the-variants.{Sum}
 use Rattle.words.specs.Outcome.{accepted}
 use Rattle.words.proofs.Outcomes.{Went, went, NoLonger, accepted-no-longer, next-no-longer}
 use Rattle.draws.specs.declared.weighted.Place.{Place}
 use Rattle.draws.specs.Below.{below}
+use Rattle.draws.specs.Answers.{SumsHeld}
 use Rattle.draws.specs.Weighted.{firstAbove, chosen, remainder, placeOf, weighted, Rising, Placed}
 use Rattle.draws.proofs.BelowLaws.{drawn-lt, below-no-longer}
 
@@ -115,6 +118,10 @@ front weights held sums e =
       is = f;
       long = sym (ap length f ∙ length-running 0 weights);
     }
+
+-- so they do where `checked_sums` tells a sum
+pub summed-front : (r : Summed) (sum : ℕ) (weights before after : List ℕ) → r ≡ Sum sum → SumsHeld r weights before after → Front weights after
+summed-front r sum weights before after e h = front weights (drop (length weights) before) after (subst (λ (x : Summed). SumsHeld x weights before after) e h)
 
 -- what a search of the running sums finds
 pub record Found (weights sums : List ℕ) (v at : ℕ) : Type 0 where

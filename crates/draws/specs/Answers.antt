@@ -1,7 +1,12 @@
 -- What the answers of this crate say, each with the words that are left after it.
 use Prim.Native.Nat.{ℕ}
-use mathlib.Core.List.{List}
+use mathlib.Core.Path.{_≡_}
+use mathlib.Core.List.{List, _++_}
+use lib.ListN.{length, drop}
 use lib.Ieee.{Float}
+use Rattle.laws.specs.Sums.{runningSums}
+use Rattle.refusals.specs.declared.Summed.{Summed}
+use Rattle.refusals.specs.declared.Summed.the-variants as summed
 use Rattle.refusals.specs.Refusals.{noWordLeft}
 use Rattle.words.specs.Outcome.{Outcome, refused, accepted}
 use Rattle.draws.specs.declared.below.Below.{Below}
@@ -29,6 +34,11 @@ fractionSays fraction.NoWord left = refused noWordLeft
 abbrev pub fractionPromises : Fraction → Type 0
 fractionPromises (fraction.Value x) = OfWord x
 fractionPromises fraction.NoWord = Unit {0}
+
+-- of `checked_sums`: where there is a sum, the running sums stand before what the buffer held; else it is left free
+abbrev pub SumsHeld : Summed → List ℕ → List ℕ → List ℕ → Type 0
+SumsHeld (summed.Sum sum) weights before after = after ≡ runningSums weights ++ drop (length weights) before
+SumsHeld (summed.Refused n) weights before after = Unit {0}
 
 -- of `draw_weighted`
 abbrev pub weightedSays : Weighted → List ℕ → Outcome Place

@@ -14,6 +14,12 @@ abbrev pub firstAbove : List ℕ → ℕ → ℕ
 firstAbove [] v = 0
 firstAbove (x ∷ xs) v = cond (ltb v x) 0 (suc (firstAbove xs v))
 
+-- that place is from low to low + size
+pub record FirstAboveIn (xs : List ℕ) (v low size : ℕ) : Type 0 where
+  pub from : low ≤ firstAbove xs v
+  pub to : firstAbove xs v ≤ low + size
+  pub within : low + size ≤ length xs
+
 -- "the smallest place whose running sum exceeds v"
 abbrev pub chosen : List ℕ → ℕ → ℕ
 chosen weights v = firstAbove (runningSums weights) v

@@ -2,9 +2,12 @@
 //
 // The stakes are an epoch's list, the words of chance a list that is read from a cursor on. A call checks its input, then draws,
 // and only then writes to the buffer that it was lent.
+use draws::below;
+use draws::below::Below;
 use draws::weighted;
 use draws::weighted::Weighted;
 use refusals::Refusal;
+use refusals::Summed;
 use types::ValidatorIndex;
 use words::Words;
 ghost use Prim.Native.Nat.{_≤_, _<_};
@@ -17,7 +20,7 @@ ghost use Rattle.words.specs.Outcome.{bufferAfter};
 ghost use Rattle.words.specs.Stream.{stream};
 ghost use Rattle.draws.specs.Weighted.{weighted, ids};
 ghost use Rattle.stake_weighted.specs.Seats.{iid, iidSeats};
-ghost use Rattle.stake_weighted.specs.Calls.{quorumChecks, sample, quorum};
+ghost use Rattle.stake_weighted.specs.Calls.{sizeChecks, sample, quorum};
 ghost use Rattle.stake_weighted.specs.Answers.{sampleAnswer, quorumAnswer, seatsSays};
 
 // A sampler that picks one validator.
@@ -65,18 +68,16 @@ impl StakeWeightedSampler {
         Self {}
     }
 
-    // One validator: a committee of one.
+    // One validator.
     pub fn sample(self, stakes: &[u64], list: &[u64], cursor: usize) -> SampleAnswer
         ensures { λ r. ⌜ r ≡ sampleAnswer (drop cursor (now (list .entry))) (sample (now (stakes .entry)) (drop cursor (now (list .entry)))) ⌝ }
     {
-        let mut seats = [0u64; 1];
-        let sampler = IidQuorumSampler::new(self, 1);
-        match sampler.sample_quorum(stakes, list, cursor, &mut seats) {
-            QuorumAnswer::Accepted(quorum) => SampleAnswer::Accepted(Sample {
-                id: ValidatorIndex::new(seats[0]),
-                words_read: quorum.words_read,
-            }),
-            QuorumAnswer::Refused(n) => SampleAnswer::Refused(n),
+        if refusals::bad_list_length(stakes.len()) {
+            return SampleAnswer::Refused(refusals::LIST_LENGTH);
+        }
+        match refusals::check_sum(stakes) {
+            Summed::Sum(sum) => draw_one(stakes, sum, list, cursor),
+            Summed::Refused(n) => SampleAnswer::Refused(n),
         }
     }
 }
@@ -107,18 +108,38 @@ impl IidQuorumSampler {
         ensures { λ r. ⌜ now (seats .exit) ≡ bufferAfter (quorum (now (stakes .entry)) (self .k) (length (now (seats .entry))) (drop cursor (now (list .entry)))) ids (now (seats .entry)) ⌝ }
     {
         let k = self.k;
-        match quorum_refusal(stakes, k, seats.len()) {
+        match size_refusal(stakes.len(), k, seats.len()) {
             Refusal::None => draw_quorum(stakes, k, list, cursor, seats),
             Refusal::Number(n) => QuorumAnswer::Refused(n),
         }
     }
 }
 
-// What turns a call down, for k seats and so many places to write them to.
-fn quorum_refusal(stakes: &[u64], k: usize, room: usize) -> Refusal
-    ensures { λ r. ⌜ r ≡ lowest (quorumChecks (now (stakes .entry)) k room) ⌝ }
+// One validator by one draw below the sum of the stakes.
+fn draw_one(stakes: &[u64], sum: u64, list: &[u64], cursor: usize) -> SampleAnswer
+    requires { ⌜ sum ≡ total (now stakes) ⌝ }
+    requires { ⌜ 0 < total (now stakes) ⌝ }
+    ensures { λ r. ⌜ r ≡ sampleAnswer (drop cursor (now (list .entry))) (weighted (now (stakes .entry)) (drop cursor (now (list .entry)))) ⌝ }
 {
-    if refusals::bad_list_length(stakes.len()) {
+    let mut words = words::listed(list, cursor);
+    let left = words::words_left(list, &words);
+    match below::draw_below(list, &mut words, sum) {
+        Below::Value(v) => {
+            let place = weighted::walked_place(stakes, v);
+            SampleAnswer::Accepted(Sample {
+                id: ValidatorIndex::new(place.at as u64),
+                words_read: left - words::words_left(list, &words),
+            })
+        }
+        Below::NoWord => SampleAnswer::Refused(refusals::NO_WORD_LEFT),
+    }
+}
+
+// What turns a call down by its sizes: n stakes, k seats and so many places to write them to.
+fn size_refusal(n: usize, k: usize, room: usize) -> Refusal
+    ensures { λ r. ⌜ r ≡ lowest (sizeChecks n k room) ⌝ }
+{
+    if refusals::bad_list_length(n) {
         return Refusal::Number(refusals::LIST_LENGTH);
     }
     if refusals::bad_size(k) {
@@ -127,7 +148,7 @@ fn quorum_refusal(stakes: &[u64], k: usize, room: usize) -> Refusal
     if room < k {
         return Refusal::Number(refusals::SHORT_BUFFER);
     }
-    refusals::bad_sum(stakes)
+    Refusal::None
 }
 
 // Fills seats by weighted draws from weights, whose running sums are given.
@@ -195,15 +216,17 @@ fn quorum_in_scratch(
     drawn: &mut [u64],
     seats: &mut [u64],
 ) -> QuorumAnswer
-    requires { ⌜ lowest (quorumChecks (now stakes) k (length (now seats))) ≡ None ⌝ }
+    requires { ⌜ lowest (sizeChecks (length (now stakes)) k (length (now seats))) ≡ None ⌝ }
     requires { ⌜ length (now stakes) ≤ length (now sums) ⌝ }
     requires { ⌜ k ≤ length (now drawn) ⌝ }
-    ensures { λ r. ⌜ r ≡ quorumAnswer (drop cursor (now (list .entry))) (iid k (now (stakes .entry)) (drop cursor (now (list .entry)))) ⌝ }
-    ensures { λ r. ⌜ now (seats .exit) ≡ bufferAfter (iid k (now (stakes .entry)) (drop cursor (now (list .entry)))) ids (now (seats .entry)) ⌝ }
+    ensures { λ r. ⌜ r ≡ quorumAnswer (drop cursor (now (list .entry))) (quorum (now (stakes .entry)) k (length (now (seats .entry))) (drop cursor (now (list .entry)))) ⌝ }
+    ensures { λ r. ⌜ now (seats .exit) ≡ bufferAfter (quorum (now (stakes .entry)) k (length (now (seats .entry))) (drop cursor (now (list .entry)))) ids (now (seats .entry)) ⌝ }
 {
     let n = stakes.len();
-    weighted::running_sums(stakes, sums);
-    fill_quorum(stakes, &sums[..n], list, cursor, &mut drawn[..k], seats)
+    match weighted::checked_sums(stakes, sums) {
+        Summed::Sum(_) => fill_quorum(stakes, &sums[..n], list, cursor, &mut drawn[..k], seats),
+        Summed::Refused(x) => QuorumAnswer::Refused(x),
+    }
 }
 
 // A committee of k, with scratch space for the seats; that for the running sums is chosen by the length of the list, since zeroing
@@ -216,29 +239,25 @@ fn quorum_by_length(
     drawn: &mut [u64],
     seats: &mut [u64],
 ) -> QuorumAnswer
-    requires { ⌜ lowest (quorumChecks (now stakes) k (length (now seats))) ≡ None ⌝ }
+    requires { ⌜ lowest (sizeChecks (length (now stakes)) k (length (now seats))) ≡ None ⌝ }
     requires { ⌜ k ≤ length (now drawn) ⌝ }
-    ensures { λ r. ⌜ r ≡ quorumAnswer (drop cursor (now (list .entry))) (iid k (now (stakes .entry)) (drop cursor (now (list .entry)))) ⌝ }
-    ensures { λ r. ⌜ now (seats .exit) ≡ bufferAfter (iid k (now (stakes .entry)) (drop cursor (now (list .entry)))) ids (now (seats .entry)) ⌝ }
+    ensures { λ r. ⌜ r ≡ quorumAnswer (drop cursor (now (list .entry))) (quorum (now (stakes .entry)) k (length (now (seats .entry))) (drop cursor (now (list .entry)))) ⌝ }
+    ensures { λ r. ⌜ now (seats .exit) ≡ bufferAfter (quorum (now (stakes .entry)) k (length (now (seats .entry))) (drop cursor (now (list .entry)))) ids (now (seats .entry)) ⌝ }
 {
     let n = stakes.len();
     if n <= 64 {
         let mut sums = [0u64; 64];
         return quorum_in_scratch(stakes, k, list, cursor, &mut sums, drawn, seats);
     }
-    if n <= 512 {
-        let mut sums = [0u64; 512];
-        return quorum_in_scratch(stakes, k, list, cursor, &mut sums, drawn, seats);
-    }
-    if n <= 2048 {
-        let mut sums = [0u64; 2048];
+    if n <= 1024 {
+        let mut sums = [0u64; 1024];
         return quorum_in_scratch(stakes, k, list, cursor, &mut sums, drawn, seats);
     }
     let mut sums = [0u64; 4096];
     quorum_in_scratch(stakes, k, list, cursor, &mut sums, drawn, seats)
 }
 
-// A committee of k, by a call that is not turned down.
+// A committee of k, by a call that its sizes do not turn down.
 fn draw_quorum(
     stakes: &[u64],
     k: usize,
@@ -246,9 +265,9 @@ fn draw_quorum(
     cursor: usize,
     seats: &mut [u64],
 ) -> QuorumAnswer
-    requires { ⌜ lowest (quorumChecks (now stakes) k (length (now seats))) ≡ None ⌝ }
-    ensures { λ r. ⌜ r ≡ quorumAnswer (drop cursor (now (list .entry))) (iid k (now (stakes .entry)) (drop cursor (now (list .entry)))) ⌝ }
-    ensures { λ r. ⌜ now (seats .exit) ≡ bufferAfter (iid k (now (stakes .entry)) (drop cursor (now (list .entry)))) ids (now (seats .entry)) ⌝ }
+    requires { ⌜ lowest (sizeChecks (length (now stakes)) k (length (now seats))) ≡ None ⌝ }
+    ensures { λ r. ⌜ r ≡ quorumAnswer (drop cursor (now (list .entry))) (quorum (now (stakes .entry)) k (length (now (seats .entry))) (drop cursor (now (list .entry)))) ⌝ }
+    ensures { λ r. ⌜ now (seats .exit) ≡ bufferAfter (quorum (now (stakes .entry)) k (length (now (seats .entry))) (drop cursor (now (list .entry)))) ids (now (seats .entry)) ⌝ }
 {
     if k <= 64 {
         let mut drawn = [0u64; 64];

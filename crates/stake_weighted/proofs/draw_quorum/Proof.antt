@@ -24,7 +24,7 @@ slice-aggregate-quorum-by-length-2 c = search needs
 quorum-by-length-requires-2 : tie.Need-quorum-by-length-requires-2
 quorum-by-length-requires-2 c κs =
     let s = c .before .before .before .before .before .before in
-    (s .pre, admitted (now (s .args .stakes)) (s .args .k) (length (now (s .args .seats))) (s .pre) .size)
+    (s .pre, admitted (length (now (s .args .stakes))) (s .args .k) (length (now (s .args .seats))) (s .pre) .size)
 
 same-length-2 : tie.Need-same-length-2
 same-length-2 c = search needs

@@ -40,7 +40,9 @@ slice-aggregate-quorum-in-scratch-3 : tie.Need-slice-aggregate-quorum-in-scratch
 slice-aggregate-quorum-in-scratch-3 c = search needs
 
 quorum-in-scratch-requires-3 : tie.Need-quorum-in-scratch-requires-3
-quorum-in-scratch-requires-3 c κs = search needs
+quorum-in-scratch-requires-3 c κs =
+    let s = c .before .before .before .before .before .before .before .before .before in
+    (s .pre .0, (admitted (length (now (s .args .stakes))) (s .args .k) (length (now (s .args .seats))) (s .pre .0) .list .long, s .pre .1))
 
 same-length-5 : tie.Need-same-length-5
 same-length-5 c = search needs
@@ -50,23 +52,6 @@ same-length-6 c = search needs
 
 returns-3 : tie.Need-returns-3
 returns-3 c = search needs
-
-slice-aggregate-quorum-in-scratch-4 : tie.Need-slice-aggregate-quorum-in-scratch-4
-slice-aggregate-quorum-in-scratch-4 c = search needs
-
-quorum-in-scratch-requires-4 : tie.Need-quorum-in-scratch-requires-4
-quorum-in-scratch-requires-4 c κs =
-    let s = c .before .before .before .before .before .before .before .before .before .before in
-    (s .pre .0, (admitted (now (s .args .stakes)) (s .args .k) (length (now (s .args .seats))) (s .pre .0) .list .long, s .pre .1))
-
-same-length-7 : tie.Need-same-length-7
-same-length-7 c = search needs
-
-same-length-8 : tie.Need-same-length-8
-same-length-8 c = search needs
-
-returns-4 : tie.Need-returns-4
-returns-4 c = search needs
 
 pub quorum-by-length-spec : {M : Type 1} → statement M
 quorum-by-length-spec =
@@ -86,9 +71,4 @@ quorum-by-length-spec =
     quorum-in-scratch-requires-3
     same-length-5
     same-length-6
-    returns-3
-    slice-aggregate-quorum-in-scratch-4
-    quorum-in-scratch-requires-4
-    same-length-7
-    same-length-8
-    returns-4)
+    returns-3)

@@ -1,8 +1,8 @@
--- `stake_weighted::quorum_refusal` meets its contract.
+-- `stake_weighted::size_refusal` meets its contract.
 use borrow.Author.Tests.{lt-ltb, le-ltb}
 use borrow.Author.Needs.{needs}
-use Rattle.stake_weighted.proofs.quorum_refusal.Statement.{statement}
-use Rattle.stake_weighted.proofs.quorum_refusal.Tie as tie
+use Rattle.stake_weighted.proofs.size_refusal.Statement.{statement}
+use Rattle.stake_weighted.proofs.size_refusal.Tie as tie
 
 bad-list-length-requires : tie.Need-bad-list-length-requires
 bad-list-length-requires c κs = search needs
@@ -22,22 +22,18 @@ returns-3 : tie.Need-returns-3
 returns-3 c =
     let z = c .before in
     let l = z .before .before in
-    let a = l .before .before .before .args in
+    let a = l .before .before .args in
     rw (← l .before .bad-list-length .ensures, l .if1 .left, ← z .before .bad-size .ensures, z .if2 .left, lt-ltb (a .room) (a .k) (c .if3 .taken))
-
-bad-sum-requires : tie.Need-bad-sum-requires
-bad-sum-requires c κs = search needs
 
 returns-4 : tie.Need-returns-4
 returns-4 c =
-    let z = c .before .before in
+    let z = c .before in
     let l = z .before .before in
-    let a = l .before .before .before .args in
-    rw (← l .before .bad-list-length .ensures, l .if1 .left, ← z .before .bad-size .ensures, z .if2 .left, le-ltb (a .room) (a .k) (c .before .if3 .left))
-    (c .bad-sum .ensures)
+    let a = l .before .before .args in
+    rw (← l .before .bad-list-length .ensures, l .if1 .left, ← z .before .bad-size .ensures, z .if2 .left, le-ltb (a .room) (a .k) (c .if3 .left))
 
-pub quorum-refusal-spec : {M : Type 1} → statement M
-quorum-refusal-spec =
+pub size-refusal-spec : {M : Type 1} → statement M
+size-refusal-spec =
     tie.close
     (tie.spec
     bad-list-length-requires
@@ -45,5 +41,4 @@ quorum-refusal-spec =
     bad-size-requires
     returns-2
     returns-3
-    bad-sum-requires
     returns-4)
