@@ -14,8 +14,8 @@ use Rattle.partition.specs.declared.answers.PartitionAnswer.{PartitionAnswer}
 use Rattle.partition.specs.declared.answers.PartitionAnswer.the-variants as partition
 use Rattle.fait_accompli.specs.declared.answers.CommitteeAnswer.{CommitteeAnswer}
 use Rattle.fait_accompli.specs.declared.answers.CommitteeAnswer.the-variants as committee
-use Rattle.weighted_shuffle.specs.declared.answers.ShuffleAnswer.{ShuffleAnswer}
-use Rattle.weighted_shuffle.specs.declared.answers.ShuffleAnswer.the-variants as shuffle
+use Rattle.shuffle_steps.specs.declared.answers.ShuffleAnswer.{ShuffleAnswer}
+use Rattle.shuffle_steps.specs.declared.answers.ShuffleAnswer.the-variants as shuffle
 use Rattle.turbine.specs.declared.answers.Parent.{Parent}
 use Rattle.turbine.specs.declared.answers.Parent.the-variants as parent
 use Rattle.turbine.specs.declared.answers.ViewAnswer.{ViewAnswer}

@@ -19,7 +19,7 @@ use Rattle.fixed_seats.specs.Fixed.{fixedOf, keptOf}
 use Rattle.fait_accompli.specs.Seats.{Committee, seatsOf, piecesOf}
 use Rattle.fait_accompli.specs.Calls as fa1
 use Rattle.tree.specs.Sizes.{sizes}
-use Rattle.weighted_shuffle.specs.Calls.{shuffled}
+use Rattle.shuffle_steps.specs.Calls.{shuffled}
 use Rattle.turbine.specs.declared.answers.Parent.{Parent}
 use Rattle.turbine.specs.declared.answers.Parent.the-variants as parent
 use Rattle.turbine.specs.View.{Neighborhood}

@@ -12,7 +12,7 @@ use Rattle.laws.proofs.Numbers.{split}
 use Rattle.refusals.specs.Refusals.{lowest}
 use Rattle.words.specs.Outcome.{Outcome, refused, accepted, giving, bufferAfter}
 use Rattle.words.proofs.Outcomes.{went, unrefused}
-use Rattle.weighted_shuffle.specs.Order.{order}
+use Rattle.shuffle_steps.specs.Order.{order}
 use Rattle.weighted_shuffle.proofs.WholeLaws.{orders-whole}
 use Rattle.turbine.specs.declared.answers.Parent.the-variants.{Some}
 use Rattle.turbine.specs.declared.answers.View.{View}

@@ -10,7 +10,7 @@ use lib.ListN.{length, take, drop}
 use Rattle.laws.specs.Counts.{count}
 use Rattle.words.specs.Outcome.{Outcome, refused, accepted, bufferAfter}
 use Rattle.nodes.specs.declared.node.Node.{Node}
-use Rattle.weighted_shuffle.specs.Order.{order}
+use Rattle.shuffle_steps.specs.Order.{order}
 use Rattle.turbine.specs.declared.answers.Parent.{Parent}
 use Rattle.turbine.specs.declared.answers.Parent.the-variants.{None, Some}
 use Rattle.turbine.specs.declared.answers.View.{View}

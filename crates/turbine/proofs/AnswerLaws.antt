@@ -4,9 +4,9 @@ use mathlib.Core.Path.{_≡_, refl, ap, _∙_}
 use mathlib.Core.List.{List, _++_}
 use lib.ListN.{length, drop}
 use Rattle.types.specs.declared.validator_index.ValidatorIndex.{ValidatorIndex}
-use Rattle.weighted_shuffle.specs.declared.answers.Order.{Order}
-use Rattle.weighted_shuffle.specs.declared.answers.ShuffleAnswer.{ShuffleAnswer}
-use Rattle.weighted_shuffle.specs.declared.answers.ShuffleAnswer.the-variants as shuffle
+use Rattle.shuffle_steps.specs.declared.answers.Order.{Order}
+use Rattle.shuffle_steps.specs.declared.answers.ShuffleAnswer.{ShuffleAnswer}
+use Rattle.shuffle_steps.specs.declared.answers.ShuffleAnswer.the-variants as shuffle
 use Rattle.turbine.specs.declared.answers.Parent.{Parent}
 use Rattle.turbine.specs.declared.answers.ViewAnswer.the-variants as view
 use Rattle.turbine.specs.declared.turbine_tree.TurbineTree.{TurbineTree}

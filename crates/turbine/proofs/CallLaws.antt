@@ -14,11 +14,12 @@ use Rattle.words.specs.Outcome.{Outcome, refused, accepted, giving, bufferAfter
 use Rattle.words.proofs.Outcomes.{goes-on, turned-down}
 use Rattle.nodes.specs.declared.node.Node.{Node}
 use Rattle.tree.specs.Sizes.{sizes}
-use Rattle.weighted_shuffle.specs.declared.answers.ShuffleAnswer.{ShuffleAnswer}
-use Rattle.weighted_shuffle.specs.declared.answers.ShuffleAnswer.the-variants as shuffle
-use Rattle.weighted_shuffle.specs.Order.{order}
-use Rattle.weighted_shuffle.specs.Calls.{shuffleChecks, shuffled, nodesAfter}
-use Rattle.weighted_shuffle.specs.Answers.{shuffleAnswer}
+use Rattle.shuffle_steps.specs.declared.answers.ShuffleAnswer.{ShuffleAnswer}
+use Rattle.shuffle_steps.specs.declared.answers.ShuffleAnswer.the-variants as shuffle
+use Rattle.shuffle_steps.specs.Order.{order}
+use Rattle.shuffle_steps.specs.Calls.{shuffleChecks, shuffled}
+use Rattle.shuffle_steps.specs.Answers.{shuffleAnswer}
+use Rattle.weighted_shuffle.specs.Calls.{nodesAfter}
 use Rattle.weighted_shuffle.proofs.WholeLaws.{orders-whole}
 use Rattle.turbine.specs.declared.answers.ViewAnswer.{ViewAnswer}
 use Rattle.turbine.specs.declared.answers.ViewAnswer.the-variants.{Refused}

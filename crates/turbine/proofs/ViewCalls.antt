@@ -39,10 +39,10 @@ use Rattle.refusals.specs.Refusals.{lowest, numberOf}
 use Rattle.nodes.proofs.Again.{LentShared, lends-shared, comes-back-shared}
 use Rattle.nodes.proofs.CallLent.{at, Owns, Sees, calls-lent-with}
 use Rattle.nodes.proofs.Says.{says-three}
-use Rattle.weighted_shuffle.specs.declared.answers.ShuffleAnswer.{ShuffleAnswer}
+use Rattle.shuffle_steps.specs.declared.answers.ShuffleAnswer.{ShuffleAnswer}
+use Rattle.shuffle_steps.proofs.answers.ShuffleAnswer as S
+use Rattle.shuffle_steps.proofs.answers.ShuffleAnswer.Laws as S′
 use Rattle.weighted_shuffle.proofs.DrawCalls.{Lent}
-use Rattle.weighted_shuffle.proofs.answers.ShuffleAnswer as S
-use Rattle.weighted_shuffle.proofs.answers.ShuffleAnswer.Laws as S′
 use Rattle.turbine.specs.declared.answers.ViewAnswer.{ViewAnswer}
 use Rattle.turbine.specs.View.{neighborhood}
 use Rattle.turbine.specs.Calls.{viewChecks}

@@ -3,8 +3,8 @@ use Prim.Native.Nat.{ℕ}
 use mathlib.Core.List.{List, _++_}
 use lib.ListN.{length, drop}
 use Rattle.words.specs.Outcome.{Outcome, refused, accepted, wordsRead}
-use Rattle.weighted_shuffle.specs.declared.answers.ShuffleAnswer.{ShuffleAnswer}
-use Rattle.weighted_shuffle.specs.declared.answers.ShuffleAnswer.the-variants as shuffle
+use Rattle.shuffle_steps.specs.declared.answers.ShuffleAnswer.{ShuffleAnswer}
+use Rattle.shuffle_steps.specs.declared.answers.ShuffleAnswer.the-variants as shuffle
 use Rattle.turbine.specs.declared.turbine_tree.TurbineTree.{TurbineTree}
 use Rattle.turbine.specs.declared.answers.ViewAnswer.{ViewAnswer}
 use Rattle.turbine.specs.declared.answers.ViewAnswer.the-variants as view

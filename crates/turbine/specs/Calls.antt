@@ -6,7 +6,7 @@ use Rattle.refusals.specs.Refusals.{Check, lowest, listLength, fanoutLimit, not
 use Rattle.words.specs.Outcome.{Outcome, unless, giving}
 use Rattle.nodes.specs.declared.node.Node.{Node}
 use Rattle.tree.specs.Sizes.{sizes}
-use Rattle.weighted_shuffle.specs.Order.{order}
+use Rattle.shuffle_steps.specs.Order.{order}
 use Rattle.turbine.specs.View.{Neighborhood, neighborhood}
 
 -- how many places are lent for the order, how many nodes, and how many places for children

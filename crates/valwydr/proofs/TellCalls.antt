@@ -31,9 +31,9 @@ use Rattle.types.specs.declared.validator_index.ValidatorIndex.{ValidatorIndex}
 use Rattle.types.proofs.validator_index.ValidatorIndex as Id
 use Rattle.types.proofs.validator_index.ValidatorIndex.new as new-id
 use Rattle.types.proofs.validator_index.ValidatorIndex.new.Symbol.{name as #types·new-id}
-use Rattle.weighted_shuffle.specs.declared.answers.ShuffleAnswer.{ShuffleAnswer}
-use Rattle.weighted_shuffle.proofs.answers.ShuffleAnswer as S
-use Rattle.weighted_shuffle.proofs.answers.ShuffleAnswer.Laws as S′
+use Rattle.shuffle_steps.specs.declared.answers.ShuffleAnswer.{ShuffleAnswer}
+use Rattle.shuffle_steps.proofs.answers.ShuffleAnswer as S
+use Rattle.shuffle_steps.proofs.answers.ShuffleAnswer.Laws as S′
 use Rattle.turbine.specs.declared.answers.ViewAnswer.{ViewAnswer}
 use Rattle.turbine.proofs.answers.ViewAnswer as R
 use Rattle.turbine.proofs.answers.ViewAnswer.Laws as R′

@@ -34,12 +34,13 @@ use Rattle.nodes.proofs.node.Found as F
 use Rattle.nodes.proofs.Says.{says-three}
 use Rattle.nodes.proofs.CallLent.{at, Owns, Sees, seen-twice, calls-lent-with, calls-both-with}
 use Rattle.nodes.proofs.RunCalls.{found-owned}
-use Rattle.weighted_shuffle.specs.declared.drawing.Drawing.{Drawing}
-use Rattle.weighted_shuffle.specs.Progress.{Started, Valued, without, Drew}
-use Rattle.weighted_shuffle.proofs.drawing.Drawing as D
-use Rattle.weighted_shuffle.proofs.drawing.Drawing.Laws as D′
-use Rattle.weighted_shuffle.proofs.drawing.took as took
-use Rattle.weighted_shuffle.proofs.drawing.took.Symbol.{name as #weighted-shuffle·took}
+use Rattle.shuffle_steps.specs.declared.drawing.Drawing.{Drawing}
+use Rattle.shuffle_steps.specs.Progress.{Valued, without}
+use Rattle.shuffle_steps.proofs.drawing.Drawing as D
+use Rattle.shuffle_steps.proofs.drawing.Drawing.Laws as D′
+use Rattle.shuffle_steps.proofs.drawing.took as took
+use Rattle.shuffle_steps.proofs.drawing.took.Symbol.{name as #shuffle-steps·took}
+use Rattle.weighted_shuffle.specs.Going.{Started, Drew}
 use Rattle.weighted_shuffle.proofs.draw.draw_all as draw-all
 use Rattle.weighted_shuffle.proofs.draw.draw_all.Symbol.{name as #weighted-shuffle·draw-all}
 
@@ -88,11 +89,11 @@ module _ {M : Type 1} (𝓤 : URA M) (H : Heap 𝓤) (A : Atoms 𝓤) (mem : Mem
 
 module _ {M : Type 1} {𝓤 : URA M} {H : Heap 𝓤} {A : Atoms 𝓤} {K : Type 0} {W : Given 𝓤 H A} {Γ : List (Item 𝓤)} {E : Env 𝓤 H} {C : Calls 𝓤 H} {Λ : Loops 𝓤 H} {xs : List Operand} {rest : Body} {d : Place} {p : Post 𝓤 H}
     (mem : Memory → SProp 𝓤) (run : Routine → Fun 𝓤) (κ : Lft) (q : Share) (γ : GName) (b o : ℕ) (ds : List ℕ) {n : ℕ} (κ₂ : Lft) (q₂ : Share) (γ₂ : GName) (b₂ o₂ : ℕ) (ws : List ℕ) (s : Drawing) (found : Found) where
-  pub calls-took : K → FmC 𝓤 H (W .laws) C → Triple 𝓤 (C #weighted-shuffle·took) (Took 𝓤 H A mem run) → length ds ≡ n → Room u64 n → s .count < n → s .«num_nodes» ≤ found .index → found .weight ≤ s .weight
+  pub calls-took : K → FmC 𝓤 H (W .laws) C → Triple 𝓤 (C #shuffle-steps·took) (Took 𝓤 H A mem run) → length ds ≡ n → Room u64 n → s .count < n → s .«num_nodes» ≤ found .index → found .weight ≤ s .weight
       → (v : Val) → Is D.the-row s (v ∷ []) → (w : Val) → Is F.the-row found (w ∷ [])
       → ((i j k l : Item 𝓤) → Opds K W (i ∷ j ∷ k ∷ l ∷ Γ) E xs (sliceVal (b₂, o₂) (length ws) ∷ sliceVal (b, o) n ∷ v ∷ w ∷ []))
       → ((r : Drawing) (u : Val) → Valued ws (without s found) r → Is D.the-row r (u ∷ []) → Seq K W (Owns 𝓤 u64 κ γ b o (with-found ds s found) n ∷ ‵ (flft κ q) ∷ Sees 𝓤 u64 κ₂ γ₂ b₂ o₂ ws (length ws) ∷ ‵ (flft κ₂ q₂) ∷ Γ) (lands C Λ E d u rest p))
-      → Seq K W (Owns 𝓤 u64 κ γ b o ds n ∷ ‵ (flft κ q) ∷ Sees 𝓤 u64 κ₂ γ₂ b₂ o₂ ws (length ws) ∷ ‵ (flft κ₂ q₂) ∷ Γ) (runs C Λ E (seq (call #weighted-shuffle·took xs d) rest) p)
+      → Seq K W (Owns 𝓤 u64 κ γ b o ds n ∷ ‵ (flft κ q) ∷ Sees 𝓤 u64 κ₂ γ₂ b₂ o₂ ws (length ws) ∷ ‵ (flft κ₂ q₂) ∷ Γ) (runs C Λ E (seq (call #shuffle-steps·took xs d) rest) p)
   calls-took t fm known e = rw (← e) (λ spare room past within v has w found-has ops k.
       move t (2 ∷ 3 ∷ []) $ seen-twice u64 κ₂ q₂ γ₂ b₂ o₂ ws (length ws) t $ nothing t $ move t (3 ∷ 4 ∷ 1 ∷ 2 ∷ []) $
       -- [what drawn owns; its token; the list and its token; the copy; true; …]

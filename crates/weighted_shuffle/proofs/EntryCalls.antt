@@ -32,11 +32,12 @@ use Rattle.nodes.specs.declared.node.Node.{Node}
 use Rattle.nodes.proofs.node.Node as N
 use Rattle.nodes.proofs.CallLent.{at, Owns, Sees, seen-twice, calls-both-with}
 use Rattle.tree.specs.Sizes.{sizes}
-use Rattle.weighted_shuffle.specs.declared.answers.ShuffleAnswer.{ShuffleAnswer}
-use Rattle.weighted_shuffle.specs.Calls.{shuffled, nodesAfter}
-use Rattle.weighted_shuffle.specs.Answers.{shuffleAnswer}
+use Rattle.shuffle_steps.specs.declared.answers.ShuffleAnswer.{ShuffleAnswer}
+use Rattle.shuffle_steps.specs.Calls.{shuffled}
+use Rattle.shuffle_steps.specs.Answers.{shuffleAnswer}
+use Rattle.shuffle_steps.proofs.answers.ShuffleAnswer as S
+use Rattle.weighted_shuffle.specs.Calls.{nodesAfter}
 use Rattle.weighted_shuffle.proofs.DrawCalls.{Lent}
-use Rattle.weighted_shuffle.proofs.answers.ShuffleAnswer as S
 use Rattle.weighted_shuffle.proofs.shuffle.shuffle as shuffle
 use Rattle.weighted_shuffle.proofs.shuffle.shuffle.Symbol.{name as #weighted-shuffle·shuffle}
 

@@ -14,9 +14,10 @@ use Rattle.nodes.specs.Walks.{root, down, up, Enough}
 use Rattle.tree.specs.Sizes.{numNodes, treeSize}
 use Rattle.tree.specs.Levels.{treeOf}
 use Rattle.tree.proofs.Laws.{size-small, tree-long, tree-search, Removes, tree-remove}
-use Rattle.weighted_shuffle.specs.declared.drawing.Drawing.{Drawing}
-use Rattle.weighted_shuffle.specs.Progress.{Progress, Going, Valued, without}
-use Rattle.weighted_shuffle.proofs.ProgressLaws.{rest, at-lt, at-weight, count-lt, progress-next}
+use Rattle.shuffle_steps.specs.declared.drawing.Drawing.{Drawing}
+use Rattle.shuffle_steps.specs.Progress.{Progress, Valued, without}
+use Rattle.shuffle_steps.proofs.ProgressLaws.{rest, at-lt, at-weight, count-lt, progress-next}
+use Rattle.weighted_shuffle.specs.Going.{Going}
 
 -- what taking out a position that was found asks
 pub record Asks (nodes : List Node) (drawn : List ℕ) (s : Drawing) (found : Found) : Type 0 where

@@ -1,11 +1,4 @@
-pub mod OrderLaws
-pub mod ProgressLaws
 pub mod GoingLaws
-pub mod BeginLaws
-pub mod BuildLaws
-pub mod BegunLaws
-pub mod ZeroLaws
-pub mod FinishLaws
 pub mod WholeLaws
 pub mod ShuffleLaws
 pub mod DrawCalls

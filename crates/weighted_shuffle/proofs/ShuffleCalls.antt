@@ -29,16 +29,16 @@ use denote.Triple.Clauses.{ensured, lasts}
 use denote.Triple.Walked.{says}
 use Rattle.words.specs.Outcome.{bufferAfter}
 use Rattle.nodes.proofs.CallLent.{at, Owns, Sees, seen-twice, calls-both-with}
-use Rattle.weighted_shuffle.specs.declared.drawing.Drawing.{Drawing}
-use Rattle.weighted_shuffle.specs.declared.drawing.Ended.{Ended}
-use Rattle.weighted_shuffle.specs.Answers.{shuffleAnswer}
-use Rattle.weighted_shuffle.specs.Progress.{Begun, NoMore, ending, backOf}
-use Rattle.weighted_shuffle.proofs.drawing.Drawing as D
-use Rattle.weighted_shuffle.proofs.drawing.Ended as End
-use Rattle.weighted_shuffle.proofs.begin.begin as begin
-use Rattle.weighted_shuffle.proofs.begin.begin.Symbol.{name as #weighted-shuffle·begin}
-use Rattle.weighted_shuffle.proofs.finish.finish as finish
-use Rattle.weighted_shuffle.proofs.finish.finish.Symbol.{name as #weighted-shuffle·finish}
+use Rattle.shuffle_steps.specs.declared.drawing.Drawing.{Drawing}
+use Rattle.shuffle_steps.specs.declared.drawing.Ended.{Ended}
+use Rattle.shuffle_steps.specs.Answers.{shuffleAnswer}
+use Rattle.shuffle_steps.specs.Progress.{Begun, NoMore, ending, backOf}
+use Rattle.shuffle_steps.proofs.drawing.Drawing as D
+use Rattle.shuffle_steps.proofs.drawing.Ended as End
+use Rattle.shuffle_steps.proofs.begin.begin as begin
+use Rattle.shuffle_steps.proofs.begin.begin.Symbol.{name as #shuffle-steps·begin}
+use Rattle.shuffle_steps.proofs.finish.finish as finish
+use Rattle.shuffle_steps.proofs.finish.finish.Symbol.{name as #shuffle-steps·finish}
 use Rattle.weighted_shuffle.proofs.DrawCalls.{drawing-owned, Lent}
 
 module _ {M : Type 1} (𝓤 : URA M) (H : Heap 𝓤) (A : Atoms 𝓤) (mem : Memory → SProp 𝓤) (run : Routine → Fun 𝓤) where
@@ -96,11 +96,11 @@ module _ {M : Type 1} (𝓤 : URA M) (H : Heap 𝓤) (A : Atoms 𝓤) (W : Given
 
 module _ {M : Type 1} {𝓤 : URA M} {H : Heap 𝓤} {A : Atoms 𝓤} {K : Type 0} {W : Given 𝓤 H A} {Γ : List (Item 𝓤)} {E : Env 𝓤 H} {C : Calls 𝓤 H} {Λ : Loops 𝓤 H} {xs : List Operand} {rest : Body} {d : Place} {p : Post 𝓤 H}
     (mem : Memory → SProp 𝓤) (run : Routine → Fun 𝓤) (κ₁ : Lft) (q₁ : Share) (γ₁ : GName) (b₁ o₁ : ℕ) (ds : List ℕ) {n : ℕ} (κ₂ : Lft) (q₂ : Share) (γ₂ : GName) (b₂ o₂ : ℕ) (ss : List ℕ) {m : ℕ} (κ₃ : Lft) (q₃ : Share) (γ₃ : GName) (b₃ o₃ : ℕ) (weights : List ℕ) (κ₄ : Lft) (q₄ : Share) (γ₄ : GName) (b₄ o₄ : ℕ) (list : List ℕ) (cursor room nodes : ℕ) where
-  pub calls-begin : K → FmC 𝓤 H (W .laws) C → Triple 𝓤 (C #weighted-shuffle·begin) (Begin 𝓤 H A mem run) → length ds ≡ n → length ss ≡ m → Room u64 n → Room u64 m → cursor < 2 ^ 64 → room < 2 ^ 64 → nodes < 2 ^ 64 → (4096 ≤ length ds) × (ss ≡ replicate 4368 0)
+  pub calls-begin : K → FmC 𝓤 H (W .laws) C → Triple 𝓤 (C #shuffle-steps·begin) (Begin 𝓤 H A mem run) → length ds ≡ n → length ss ≡ m → Room u64 n → Room u64 m → cursor < 2 ^ 64 → room < 2 ^ 64 → nodes < 2 ^ 64 → (4096 ≤ length ds) × (ss ≡ replicate 4368 0)
       → ((i j k l g h e f : Item 𝓤) → Opds K W (i ∷ j ∷ k ∷ l ∷ g ∷ h ∷ e ∷ f ∷ Γ) E xs (sliceVal (b₃, o₃) (length weights) ∷ sliceVal (b₄, o₄) (length list) ∷ vint w64 cursor ∷ vint w64 room ∷ vint w64 nodes ∷ sliceVal (b₁, o₁) n ∷ sliceVal (b₂, o₂) m ∷ []))
       → ((r : Drawing) (ds′ ss′ : List ℕ) (u : Val) → Begun weights (drop cursor list) room nodes ds′ list ss′ r → length ds′ ≡ n → length ss′ ≡ m → Is D.the-row r (u ∷ [])
       → Seq K W (Owns 𝓤 u64 κ₁ γ₁ b₁ o₁ ds′ n ∷ ‵ (flft κ₁ q₁) ∷ Owns 𝓤 u64 κ₂ γ₂ b₂ o₂ ss′ m ∷ ‵ (flft κ₂ q₂) ∷ Sees 𝓤 u64 κ₃ γ₃ b₃ o₃ weights (length weights) ∷ ‵ (flft κ₃ q₃) ∷ Sees 𝓤 u64 κ₄ γ₄ b₄ o₄ list (length list) ∷ ‵ (flft κ₄ q₄) ∷ Γ) (lands C Λ E d u rest p))
-      → Seq K W (Owns 𝓤 u64 κ₁ γ₁ b₁ o₁ ds n ∷ ‵ (flft κ₁ q₁) ∷ Owns 𝓤 u64 κ₂ γ₂ b₂ o₂ ss m ∷ ‵ (flft κ₂ q₂) ∷ Sees 𝓤 u64 κ₃ γ₃ b₃ o₃ weights (length weights) ∷ ‵ (flft κ₃ q₃) ∷ Sees 𝓤 u64 κ₄ γ₄ b₄ o₄ list (length list) ∷ ‵ (flft κ₄ q₄) ∷ Γ) (runs C Λ E (seq (call #weighted-shuffle·begin xs d) rest) p)
+      → Seq K W (Owns 𝓤 u64 κ₁ γ₁ b₁ o₁ ds n ∷ ‵ (flft κ₁ q₁) ∷ Owns 𝓤 u64 κ₂ γ₂ b₂ o₂ ss m ∷ ‵ (flft κ₂ q₂) ∷ Sees 𝓤 u64 κ₃ γ₃ b₃ o₃ weights (length weights) ∷ ‵ (flft κ₃ q₃) ∷ Sees 𝓤 u64 κ₄ γ₄ b₄ o₄ list (length list) ∷ ‵ (flft κ₄ q₄) ∷ Γ) (runs C Λ E (seq (call #shuffle-steps·begin xs d) rest) p)
   calls-begin t fm known e₁ e₂ = rw (← e₁, ← e₂) (λ room₁ room₂ cursor-fits room-fits nodes-fits asked ops k.
       move t (4 ∷ 5 ∷ []) $ seen-twice u64 κ₃ q₃ γ₃ b₃ o₃ weights (length weights) t $ move t (6 ∷ 7 ∷ []) $ seen-twice u64 κ₄ q₄ γ₄ b₄ o₄ list (length list) t $ move t (2 ∷ 0 ∷ []) $ join t $ nothing t $ nothing t $ nothing t $ move t (6 ∷ 7 ∷ 8 ∷ 9 ∷ 3 ∷ 4 ∷ 5 ∷ []) $
       -- [what drawn owns; its token; what sums owns; its token; weights and list and their tokens; the copy of list; the copy of weights; three times true; …]
@@ -158,11 +158,11 @@ module _ {M : Type 1} (𝓤 : URA M) (H : Heap 𝓤) (A : Atoms 𝓤) (W : Given
 
 module _ {M : Type 1} {𝓤 : URA M} {H : Heap 𝓤} {A : Atoms 𝓤} {K : Type 0} {W : Given 𝓤 H A} {Γ : List (Item 𝓤)} {E : Env 𝓤 H} {C : Calls 𝓤 H} {Λ : Loops 𝓤 H} {xs : List Operand} {rest : Body} {d : Place} {p : Post 𝓤 H}
     (mem : Memory → SProp 𝓤) (run : Routine → Fun 𝓤) (κ₁ : Lft) (q₁ : Share) (γ₁ : GName) (b₁ o₁ : ℕ) (order : List ℕ) {n : ℕ} (κ₂ : Lft) (q₂ : Share) (γ₂ : GName) (b₂ o₂ : ℕ) (ds : List ℕ) {m : ℕ} (κ₃ : Lft) (q₃ : Share) (γ₃ : GName) (b₃ o₃ : ℕ) (list : List ℕ) (cursor : ℕ) (s : Drawing) where
-  pub calls-finish : K → FmC 𝓤 H (W .laws) C → Triple 𝓤 (C #weighted-shuffle·finish) (Finish 𝓤 H A mem run) → length order ≡ n → length ds ≡ m → Room u64 n → Room u64 m → cursor < 2 ^ 64 → (v : Val) → Is D.the-row s (v ∷ []) → (s .count ≤ s .n) × ((s .n ≤ length ds) × ((s .n ≤ length order) × NoMore (drop cursor list) (ending list ds s)))
+  pub calls-finish : K → FmC 𝓤 H (W .laws) C → Triple 𝓤 (C #shuffle-steps·finish) (Finish 𝓤 H A mem run) → length order ≡ n → length ds ≡ m → Room u64 n → Room u64 m → cursor < 2 ^ 64 → (v : Val) → Is D.the-row s (v ∷ []) → (s .count ≤ s .n) × ((s .n ≤ length ds) × ((s .n ≤ length order) × NoMore (drop cursor list) (ending list ds s)))
       → ((i j k l g h : Item 𝓤) → Opds K W (i ∷ j ∷ k ∷ l ∷ g ∷ h ∷ Γ) E xs (sliceVal (b₃, o₃) (length list) ∷ vint w64 cursor ∷ sliceVal (b₁, o₁) n ∷ sliceVal (b₂, o₂) m ∷ v ∷ []))
       → ((r : Ended) (order′ ds′ : List ℕ) (u : Val) → r .answer ≡ shuffleAnswer (drop cursor list) (ending list ds s) → r .back ≡ backOf (ending list ds s) (s .size) → order′ ≡ bufferAfter (ending list ds s) (λ ps. ps) order → length order′ ≡ n → length ds′ ≡ m → Is End.the-row r (u ∷ [])
       → Seq K W (Owns 𝓤 u64 κ₁ γ₁ b₁ o₁ order′ n ∷ ‵ (flft κ₁ q₁) ∷ Owns 𝓤 u64 κ₂ γ₂ b₂ o₂ ds′ m ∷ ‵ (flft κ₂ q₂) ∷ Sees 𝓤 u64 κ₃ γ₃ b₃ o₃ list (length list) ∷ ‵ (flft κ₃ q₃) ∷ Γ) (lands C Λ E d u rest p))
-      → Seq K W (Owns 𝓤 u64 κ₁ γ₁ b₁ o₁ order n ∷ ‵ (flft κ₁ q₁) ∷ Owns 𝓤 u64 κ₂ γ₂ b₂ o₂ ds m ∷ ‵ (flft κ₂ q₂) ∷ Sees 𝓤 u64 κ₃ γ₃ b₃ o₃ list (length list) ∷ ‵ (flft κ₃ q₃) ∷ Γ) (runs C Λ E (seq (call #weighted-shuffle·finish xs d) rest) p)
+      → Seq K W (Owns 𝓤 u64 κ₁ γ₁ b₁ o₁ order n ∷ ‵ (flft κ₁ q₁) ∷ Owns 𝓤 u64 κ₂ γ₂ b₂ o₂ ds m ∷ ‵ (flft κ₂ q₂) ∷ Sees 𝓤 u64 κ₃ γ₃ b₃ o₃ list (length list) ∷ ‵ (flft κ₃ q₃) ∷ Γ) (runs C Λ E (seq (call #shuffle-steps·finish xs d) rest) p)
   calls-finish t fm known e₁ e₂ = rw (← e₁, ← e₂) (λ room₁ room₂ cursor-fits v has asked ops k.
       move t (4 ∷ 5 ∷ []) $ seen-twice u64 κ₃ q₃ γ₃ b₃ o₃ list (length list) t $ nothing t $ nothing t $ move t (4 ∷ 5 ∷ 6 ∷ 7 ∷ 2 ∷ 3 ∷ []) $
       -- [what order owns; its token; what drawn owns; its token; the list and its token; the copy; true; true; …]

@@ -23,12 +23,14 @@ use Rattle.tree.specs.Sizes.{sizes, treeSize}
 use Rattle.tree.specs.Levels.{sumsOf, treeOf}
 use Rattle.tree.proofs.CutLaws.{cut-front}
 use Rattle.tree.proofs.Laws.{sums-long, tree-long, tree-none}
-use Rattle.weighted_shuffle.specs.declared.drawing.Drawing.{Drawing}
-use Rattle.weighted_shuffle.specs.Order.{whole, order}
-use Rattle.weighted_shuffle.specs.Calls.{shuffleChecks, shuffled, nodesAfter}
-use Rattle.weighted_shuffle.proofs.OrderLaws.{steps-no-longer}
-use Rattle.weighted_shuffle.specs.Progress.{Progress, Going, Started, Drew, Begun, zerosDrawn, ending, NoMore, backOf}
-use Rattle.weighted_shuffle.proofs.ProgressLaws.{progress-ending}
+use Rattle.shuffle_steps.specs.declared.drawing.Drawing.{Drawing}
+use Rattle.shuffle_steps.specs.Order.{whole, order}
+use Rattle.shuffle_steps.specs.Calls.{shuffleChecks, shuffled}
+use Rattle.shuffle_steps.proofs.OrderLaws.{steps-no-longer}
+use Rattle.shuffle_steps.specs.Progress.{Progress, Begun, zerosDrawn, ending, NoMore, backOf}
+use Rattle.shuffle_steps.proofs.ProgressLaws.{progress-ending}
+use Rattle.weighted_shuffle.specs.Calls.{nodesAfter}
+use Rattle.weighted_shuffle.specs.Going.{Going, Started, Drew}
 
 -- no more words are left than there were
 pub shuffled-no-longer : (weights : List ℕ) (room nodes : ℕ) (ws : List ℕ) → NoLonger ws (shuffled weights room nodes ws)

@@ -24,9 +24,9 @@ use Rattle.draws.specs.Below.{below}
 use Rattle.draws.specs.Weighted.{weighted, Placed}
 use Rattle.draws.proofs.BelowLaws.{drawn-lt}
 use Rattle.draws.proofs.WeightedLaws.{placed}
-use Rattle.weighted_shuffle.specs.Order.{Left, Step, counted, zerosFrom, takeWeight, takeZero, step, steps, whole}
+use Rattle.shuffle_steps.specs.Order.{Left, Step, counted, zerosFrom, takeWeight, takeZero, step, steps, whole}
+use Rattle.shuffle_steps.proofs.BeginLaws.{length-counted}
 use Rattle.weighted_shuffle.specs.Laws.{StepsByWeight, AllZero, ZerosLast, OrdersWhole}
-use Rattle.weighted_shuffle.proofs.BeginLaws.{length-counted}
 
 -- the sum of f over the positions whose weight is above 0
 abbrev heavy : (ℕ → ℕ) → ℕ → List ℕ → ℕ

@@ -1,21 +1,10 @@
--- What a call gives: the lowest refusal from its input, else the order.
+-- What a call leaves in the lent nodes. What it gives is in `shuffle_steps`.
 use Prim.Native.Nat.{ℕ}
-use mathlib.Core.List.{List, [], _∷_, _++_}
-use lib.ListN.{length, drop, replicate}
-use Rattle.refusals.specs.Refusals.{Check, lowest, longList, shortBuffer}
-use Rattle.words.specs.Outcome.{Outcome, refused, accepted, unless}
+use mathlib.Core.List.{List, _++_}
+use lib.ListN.{drop, replicate}
+use Rattle.words.specs.Outcome.{Outcome, refused, accepted}
 use Rattle.nodes.specs.declared.node.Node.{Node}
 use Rattle.nodes.specs.Node.{zeroNode}
-use Rattle.tree.specs.Sizes.{sizes}
-use Rattle.weighted_shuffle.specs.Order.{order}
-
--- 1, for a list over 4,096 alone, and 7: "n for an order and the tree size in nodes"
-abbrev pub shuffleChecks : ℕ → ℕ → ℕ → List Check
-shuffleChecks n room nodes = longList n ∷ shortBuffer room n ∷ shortBuffer nodes (sizes n .«tree_size») ∷ []
-
--- then the order, and 12
-abbrev pub shuffled : List ℕ → ℕ → ℕ → List ℕ → Outcome (List ℕ)
-shuffled weights room nodes ws = unless (lowest (shuffleChecks (length weights) room nodes)) (order weights ws)
 
 -- "After a whole order … every sum in the tree is 0": what the lent nodes then hold; on a refusal, what they held
 abbrev pub nodesAfter : {A : Type 0} → Outcome A → ℕ → List Node → List Node

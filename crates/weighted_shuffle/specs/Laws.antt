@@ -7,7 +7,7 @@ use Rattle.laws.specs.Sums.{total}
 use Rattle.laws.specs.Counts.{count}
 use Rattle.laws.specs.Orders.{Permutation, idsFrom}
 use Rattle.words.specs.Outcome.{accepted}
-use Rattle.weighted_shuffle.specs.Order.{Left, Step, counted, step, order}
+use Rattle.shuffle_steps.specs.Order.{Left, Step, counted, step, order}
 
 -- while weight is left, a step takes a position whose weight is above 0
 abbrev pub StepsByWeight : Type 0

@@ -1,5 +1,3 @@
-pub mod Order
 pub mod Calls
-pub mod Answers
-pub mod Progress
+pub mod Going
 pub mod Laws

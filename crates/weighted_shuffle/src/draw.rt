@@ -1,10 +1,10 @@
 // The draws of a shuffle, over a lent run of nodes.
-use crate::drawing;
-use crate::drawing::Drawing;
 use nodes::node::Node;
 use nodes::remove;
 use nodes::search;
-ghost use Rattle.weighted_shuffle.specs.Progress.{Started, Drew};
+use shuffle_steps::drawing;
+use shuffle_steps::drawing::Drawing;
+ghost use Rattle.weighted_shuffle.specs.Going.{Started, Drew};
 
 // Draws positions by weight until no weight is left or no word. Each is searched for, and its weight is taken out of the nodes.
 pub fn draw_all(nodes: &mut [Node], list: &[u64], drawn: &mut [u64], start: Drawing) -> Drawing

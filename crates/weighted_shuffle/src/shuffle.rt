@@ -1,16 +1,17 @@
 // The whole order of a list of weights.
 use crate::answers::ShuffleAnswer;
-use crate::begin;
 use crate::draw;
-use crate::finish;
 use nodes::exchange;
 use nodes::node::Node;
+use shuffle_steps::begin;
+use shuffle_steps::finish;
 ghost use mathlib.Core.Path.{_≡_};
 ghost use lib.ListN.{length, drop};
 ghost use Rattle.words.specs.Outcome.{bufferAfter};
 ghost use Rattle.tree.specs.Sizes.{sizes};
-ghost use Rattle.weighted_shuffle.specs.Calls.{shuffled, nodesAfter};
-ghost use Rattle.weighted_shuffle.specs.Answers.{shuffleAnswer};
+ghost use Rattle.shuffle_steps.specs.Calls.{shuffled};
+ghost use Rattle.shuffle_steps.specs.Answers.{shuffleAnswer};
+ghost use Rattle.weighted_shuffle.specs.Calls.{nodesAfter};
 
 // The order, written to the front of `order`. The tree stands in the first nodes while the positions are drawn: what they held is
 // kept beside it, and put back where the call is refused.

@@ -2,9 +2,9 @@
 use cases::Expected;
 use cases::Verdict;
 use libc::STDOUT_FILENO;
+use shuffle_steps::begin;
 use tree::sizes;
 use weighted_shuffle::answers::ShuffleAnswer;
-use weighted_shuffle::begin;
 ghost use Prim.Native.Nat.{_≤_};
 ghost use mathlib.Core.Path.{_≡_};
 

@@ -60,15 +60,16 @@ use Rattle.nodes.proofs.search.search.Met as search-thm
 use Rattle.nodes.proofs.remove.remove.Symbol as remove-def
 use Rattle.nodes.proofs.remove.remove.Symbol.{name as #nodes·remove}
 use Rattle.nodes.proofs.remove.remove.Met as remove-thm
-use Rattle.weighted_shuffle.specs.declared.drawing.Drawing.{Drawing}
-use Rattle.weighted_shuffle.specs.Progress.{Going, Started, Valued, without, Drew}
+use Rattle.shuffle_steps.specs.declared.drawing.Drawing.{Drawing}
+use Rattle.shuffle_steps.specs.Progress.{Valued, without}
+use Rattle.shuffle_steps.proofs.drawing.Drawing as D
+use Rattle.shuffle_steps.proofs.drawing.Drawing.Laws as D′
+use Rattle.shuffle_steps.proofs.drawing.took.Symbol as took-def
+use Rattle.shuffle_steps.proofs.drawing.took.Symbol.{name as #shuffle-steps·took}
+use Rattle.shuffle_steps.proofs.drawing.took.Met as took-thm
+use Rattle.weighted_shuffle.specs.Going.{Going, Started, Drew}
 use Rattle.weighted_shuffle.proofs.GoingLaws.{Asks, going-search, going-asks, going-next}
 use Rattle.weighted_shuffle.proofs.DrawCalls.{Took, drawing-owned, with-found, calls-took}
-use Rattle.weighted_shuffle.proofs.drawing.Drawing as D
-use Rattle.weighted_shuffle.proofs.drawing.Drawing.Laws as D′
-use Rattle.weighted_shuffle.proofs.drawing.took.Symbol as took-def
-use Rattle.weighted_shuffle.proofs.drawing.took.Symbol.{name as #weighted-shuffle·took}
-use Rattle.weighted_shuffle.proofs.drawing.took.Met as took-thm
 use Rattle.weighted_shuffle.proofs.draw.draw_all.Key.{name as #weighted-shuffle·draw-all}
 use Rattle.weighted_shuffle.proofs.draw.draw_all as draw-all
 use Rattle.weighted_shuffle.proofs.draw.draw_all.Statement as stated
@@ -185,7 +186,7 @@ module _ {M : Type 1} (𝓤 : URA M) (H : Heap 𝓤) (A : Atoms 𝓤) (W : Given
     nearer : (r : Drawing) → Valued list (without (t .s) found) r → r .weight < t .s .weight
     nearer r v = omega (arith, v .weight-same, asks .within, asks .some)
 
-  module _ (𝓣 : Tables 𝓤 H) (known-search : Triple 𝓤 (𝓣 .C #nodes·search) (Search 𝓤 H A mem run)) (known-remove : Triple 𝓤 (𝓣 .C #nodes·remove) (Remove 𝓤 H A mem run)) (known-took : Triple 𝓤 (𝓣 .C #weighted-shuffle·took) (Took 𝓤 H A mem run)) where
+  module _ (𝓣 : Tables 𝓤 H) (known-search : Triple 𝓤 (𝓣 .C #nodes·search) (Search 𝓤 H A mem run)) (known-remove : Triple 𝓤 (𝓣 .C #nodes·remove) (Remove 𝓤 H A mem run)) (known-took : Triple 𝓤 (𝓣 .C #shuffle-steps·took) (Took 𝓤 H A mem run)) where
     abbrev C : Calls 𝓤 H
     C = 𝓣 .C
 
@@ -287,7 +288,7 @@ module _ {M : Type 1} (𝓤 : URA M) (H : Heap 𝓤) (A : Atoms 𝓤) (W : Given
         looped at-start l₀ l₁ l₂ l₃ l₄ l₅ l₆ l₇ l₈ l₉ l₁₀ l₁₁ l₁₂ l₁₃ l₁₄ l₁₅))))))))))))))))
 
 module _ {M : Type 1} (𝓤 : URA M) (H : Heap 𝓤) (A : Atoms 𝓤) (W : Given 𝓤 H A) (mem : Memory → SProp 𝓤) (run : Routine → Fun 𝓤) where
-  draw-all-walks : (𝓣 : Tables 𝓤 H) → Triple 𝓤 (𝓣 .C #nodes·search) (Search 𝓤 H A mem run) → Triple 𝓤 (𝓣 .C #nodes·remove) (Remove 𝓤 H A mem run) → Triple 𝓤 (𝓣 .C #weighted-shuffle·took) (Took 𝓤 H A mem run)
+  draw-all-walks : (𝓣 : Tables 𝓤 H) → Triple 𝓤 (𝓣 .C #nodes·search) (Search 𝓤 H A mem run) → Triple 𝓤 (𝓣 .C #nodes·remove) (Remove 𝓤 H A mem run) → Triple 𝓤 (𝓣 .C #shuffle-steps·took) (Took 𝓤 H A mem run)
       → Walks 𝓤 H A draw-all.ended stayed (WpFn 𝓤 H (𝓣 .C) (𝓣 .Λ) code.function) (draw-all.clauses 𝓤 H A mem run)
   draw-all-walks 𝓣 k₁ k₂ k₃ = walked 𝓤 H A draw-all.ended stayed (draw-all.clauses 𝓤 H A mem run) (WpFn 𝓤 H (𝓣 .C) (𝓣 .Λ) code.function)
       (λ κs. (slice-vals, (slice-vals, (slice-vals, (LL.vals D.the-type D′.the-laws, tt))))) (λ κs. (mut-slice-tells (named 0) (κs .0) T.the-row, (shr-slice-tells (named 1) (κs .1 .0) u64, (mut-slice-tells (named 2) (κs .1 .1 .0) u64, (LL.tells D.the-type D′.the-laws, tt)))))
@@ -296,7 +297,7 @@ module _ {M : Type 1} (𝓤 : URA M) (H : Heap 𝓤) (A : Atoms 𝓤) (W : Given
       (are .0 .0 .1) (are .1 .0 .0 .1) (are .1 .1 .0 .0 .1) (are .1 .1 .1 .0) asked 𝓣 k₁ k₂ k₃))
 
 draw-all-meets : {M : Type 1} (𝓤 : URA M) (H : Heap 𝓤) (A : Atoms 𝓤) (W : Given 𝓤 H A) (mem : Memory → SProp 𝓤) (run : Routine → Fun 𝓤) (𝓣 : Tables 𝓤 H)
-    → Triple 𝓤 (𝓣 .C #nodes·search) (Search 𝓤 H A mem run) → Triple 𝓤 (𝓣 .C #nodes·remove) (Remove 𝓤 H A mem run) → Triple 𝓤 (𝓣 .C #weighted-shuffle·took) (Took 𝓤 H A mem run)
+    → Triple 𝓤 (𝓣 .C #nodes·search) (Search 𝓤 H A mem run) → Triple 𝓤 (𝓣 .C #nodes·remove) (Remove 𝓤 H A mem run) → Triple 𝓤 (𝓣 .C #shuffle-steps·took) (Took 𝓤 H A mem run)
     → Meets 𝓤 H A draw-all.signature (WpFn 𝓤 H (𝓣 .C) (𝓣 .Λ) code.function) (draw-all.spec 𝓤 H A mem run)
 draw-all-meets 𝓤 H A W mem run 𝓣 k₁ k₂ k₃ = walk-meets 𝓤 H A draw-all.ended stayed W
     (goes-slice 𝓤 H A W 3 0 tt (plain (λ _. T.the-row)), (goes-none-slice 𝓤 H A W 3 (1 ∷ []) tt (plain (λ _. u64)) yes, (goes-slice 𝓤 H A W 3 2 tt (plain (λ _. u64)), (goes-none 𝓤 H A W 3 (λ _. D.the-row) yes (λ κs x f. refl), tt))))
@@ -310,4 +311,4 @@ draw-all-spec 𝓤 H 𝓜 𝓖 𝓡 =
     (draw-all-meets 𝓤 H (𝓖 .A) (givenOf 𝓤 H 𝓜 𝓖) (𝓜 .mem) (𝓡 .run) (tablesOf 𝓤 H 𝓜 (tables 𝓤 H 𝓜 𝓡 code.env))
     (cited 𝓤 H (Search 𝓤 H (𝓖 .A) (𝓜 .mem) (𝓡 .run)) 𝓜 𝓡 code.env #nodes·search search-def.routine code.calls-nodes·search·search (search-thm.met 𝓤 H 𝓜 𝓖 𝓡))
     (cited 𝓤 H (Remove 𝓤 H (𝓖 .A) (𝓜 .mem) (𝓡 .run)) 𝓜 𝓡 code.env #nodes·remove remove-def.routine code.calls-nodes·remove·remove (remove-thm.met 𝓤 H 𝓜 𝓖 𝓡))
-    (cited 𝓤 H (Took 𝓤 H (𝓖 .A) (𝓜 .mem) (𝓡 .run)) 𝓜 𝓡 code.env #weighted-shuffle·took took-def.routine code.calls-weighted-shuffle·drawing·took (took-thm.met 𝓤 H 𝓜 𝓖 𝓡)))
+    (cited 𝓤 H (Took 𝓤 H (𝓖 .A) (𝓜 .mem) (𝓡 .run)) 𝓜 𝓡 code.env #shuffle-steps·took took-def.routine code.calls-shuffle-steps·drawing·took (took-thm.met 𝓤 H 𝓜 𝓖 𝓡)))

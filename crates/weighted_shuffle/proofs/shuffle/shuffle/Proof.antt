@@ -52,31 +52,33 @@ use Rattle.nodes.proofs.exchange.exchange.Symbol as exchange-def
 use Rattle.nodes.proofs.exchange.exchange.Symbol.{name as #nodes·exchange}
 use Rattle.nodes.proofs.exchange.exchange.Met as exchange-thm
 use Rattle.tree.specs.Sizes.{sizes}
-use Rattle.weighted_shuffle.specs.declared.answers.ShuffleAnswer.{ShuffleAnswer}
-use Rattle.weighted_shuffle.specs.declared.drawing.Drawing.{Drawing}
-use Rattle.weighted_shuffle.specs.declared.drawing.Ended.{Ended}
-use Rattle.weighted_shuffle.specs.Calls.{shuffled, nodesAfter}
-use Rattle.weighted_shuffle.specs.Answers.{shuffleAnswer}
-use Rattle.weighted_shuffle.specs.Progress.{Begun, Drew, ending, backOf}
+use Rattle.shuffle_steps.specs.declared.answers.ShuffleAnswer.{ShuffleAnswer}
+use Rattle.shuffle_steps.specs.declared.drawing.Drawing.{Drawing}
+use Rattle.shuffle_steps.specs.declared.drawing.Ended.{Ended}
+use Rattle.shuffle_steps.specs.Calls.{shuffled}
+use Rattle.shuffle_steps.specs.Answers.{shuffleAnswer}
+use Rattle.shuffle_steps.specs.Progress.{Begun, ending, backOf}
+use Rattle.weighted_shuffle.specs.Calls.{nodesAfter}
+use Rattle.weighted_shuffle.specs.Going.{Drew}
 use Rattle.weighted_shuffle.proofs.ShuffleLaws.{begun-asks, begun-started, drew-asks, drew-ending, drew-back, drew-nodes}
 use Rattle.nodes.proofs.LocalArray.{words, zeros-typed, big-lit, lends-local, ends-local}
+use Rattle.shuffle_steps.proofs.answers.ShuffleAnswer as S
+use Rattle.shuffle_steps.proofs.answers.ShuffleAnswer.Laws as S′
+use Rattle.shuffle_steps.proofs.drawing.Drawing as D
+use Rattle.shuffle_steps.proofs.drawing.Drawing.Laws as D′
+use Rattle.shuffle_steps.proofs.drawing.Ended as E
+use Rattle.shuffle_steps.proofs.drawing.Ended.Laws as E′
+use Rattle.shuffle_steps.proofs.begin.begin.Symbol as begin-def
+use Rattle.shuffle_steps.proofs.begin.begin.Symbol.{name as #shuffle-steps·begin}
+use Rattle.shuffle_steps.proofs.begin.begin.Met as begin-thm
+use Rattle.shuffle_steps.proofs.finish.finish.Symbol as finish-def
+use Rattle.shuffle_steps.proofs.finish.finish.Symbol.{name as #shuffle-steps·finish}
+use Rattle.shuffle_steps.proofs.finish.finish.Met as finish-thm
 use Rattle.weighted_shuffle.proofs.DrawCalls.{DrawAll, calls-draw-all}
 use Rattle.weighted_shuffle.proofs.ShuffleCalls.{Begin, Finish, calls-begin, calls-finish}
-use Rattle.weighted_shuffle.proofs.answers.ShuffleAnswer as S
-use Rattle.weighted_shuffle.proofs.answers.ShuffleAnswer.Laws as S′
-use Rattle.weighted_shuffle.proofs.drawing.Drawing as D
-use Rattle.weighted_shuffle.proofs.drawing.Drawing.Laws as D′
-use Rattle.weighted_shuffle.proofs.drawing.Ended as E
-use Rattle.weighted_shuffle.proofs.drawing.Ended.Laws as E′
-use Rattle.weighted_shuffle.proofs.begin.begin.Symbol as begin-def
-use Rattle.weighted_shuffle.proofs.begin.begin.Symbol.{name as #weighted-shuffle·begin}
-use Rattle.weighted_shuffle.proofs.begin.begin.Met as begin-thm
 use Rattle.weighted_shuffle.proofs.draw.draw_all.Symbol as draw-all-def
 use Rattle.weighted_shuffle.proofs.draw.draw_all.Symbol.{name as #weighted-shuffle·draw-all}
 use Rattle.weighted_shuffle.proofs.draw.draw_all.Met as draw-all-thm
-use Rattle.weighted_shuffle.proofs.finish.finish.Symbol as finish-def
-use Rattle.weighted_shuffle.proofs.finish.finish.Symbol.{name as #weighted-shuffle·finish}
-use Rattle.weighted_shuffle.proofs.finish.finish.Met as finish-thm
 use Rattle.weighted_shuffle.proofs.shuffle.shuffle.Key.{name as #weighted-shuffle·shuffle}
 use Rattle.weighted_shuffle.proofs.shuffle.shuffle as shuffle
 use Rattle.weighted_shuffle.proofs.shuffle.shuffle.Statement as stated
@@ -194,7 +196,7 @@ module _ {M : Type 1} (𝓤 : URA M) (H : Heap 𝓤) (A : Atoms 𝓤) (W : Given
       nodes-are = ap (λ (k : ℕ). cut k (left s ss) ++ drop k zs) e₂ ∙ drew-nodes ys b d full;
     }
 
-  module _ (𝓣 : Tables 𝓤 H) (known-begin : Triple 𝓤 (𝓣 .C #weighted-shuffle·begin) (Begin 𝓤 H A mem run)) (known-exchange : Triple 𝓤 (𝓣 .C #nodes·exchange) (Exchange 𝓤 H A mem run)) (known-draw-all : Triple 𝓤 (𝓣 .C #weighted-shuffle·draw-all) (DrawAll 𝓤 H A mem run)) (known-finish : Triple 𝓤 (𝓣 .C #weighted-shuffle·finish) (Finish 𝓤 H A mem run)) where
+  module _ (𝓣 : Tables 𝓤 H) (known-begin : Triple 𝓤 (𝓣 .C #shuffle-steps·begin) (Begin 𝓤 H A mem run)) (known-exchange : Triple 𝓤 (𝓣 .C #nodes·exchange) (Exchange 𝓤 H A mem run)) (known-draw-all : Triple 𝓤 (𝓣 .C #weighted-shuffle·draw-all) (DrawAll 𝓤 H A mem run)) (known-finish : Triple 𝓤 (𝓣 .C #shuffle-steps·finish) (Finish 𝓤 H A mem run)) where
     abbrev C : Calls 𝓤 H
     C = 𝓣 .C
 
@@ -341,7 +343,7 @@ module _ {M : Type 1} (𝓤 : URA M) (H : Heap 𝓤) (A : Atoms 𝓤) (W : Given
         begins l₀ l₁ l₂ l₃ l₄ l₅ l₆ l₇ l₈ l₉ l₁₀ l₁₁ l₁₂ l₁₃ l₁₄ l₁₅ l₁₆ l₁₇ l₁₈ l₁₉ l₂₀ l₂₁ l₂₂ l₂₃ l₂₄ l₂₅ l₂₆ l₂₇ l₂₈ l₂₉ l₃₀ l₃₁ l₃₂ l₃₃ ν₁ δ₁ ν₂ δ₂ (replicate 4096 0) (replicate 4368 0) (length-replicate {A = ℕ} 4096 0) (length-replicate {A = ℕ} 4368 0) refl))))))))))))))))))))))))))))))))))))
 
 module _ {M : Type 1} (𝓤 : URA M) (H : Heap 𝓤) (A : Atoms 𝓤) (W : Given 𝓤 H A) (mem : Memory → SProp 𝓤) (run : Routine → Fun 𝓤) where
-  shuffle-walks : (𝓣 : Tables 𝓤 H) → Triple 𝓤 (𝓣 .C #weighted-shuffle·begin) (Begin 𝓤 H A mem run) → Triple 𝓤 (𝓣 .C #nodes·exchange) (Exchange 𝓤 H A mem run) → Triple 𝓤 (𝓣 .C #weighted-shuffle·draw-all) (DrawAll 𝓤 H A mem run) → Triple 𝓤 (𝓣 .C #weighted-shuffle·finish) (Finish 𝓤 H A mem run)
+  shuffle-walks : (𝓣 : Tables 𝓤 H) → Triple 𝓤 (𝓣 .C #shuffle-steps·begin) (Begin 𝓤 H A mem run) → Triple 𝓤 (𝓣 .C #nodes·exchange) (Exchange 𝓤 H A mem run) → Triple 𝓤 (𝓣 .C #weighted-shuffle·draw-all) (DrawAll 𝓤 H A mem run) → Triple 𝓤 (𝓣 .C #shuffle-steps·finish) (Finish 𝓤 H A mem run)
       → Walks 𝓤 H A shuffle.ended stayed (WpFn 𝓤 H (𝓣 .C) (𝓣 .Λ) code.function) (shuffle.clauses 𝓤 H A mem run)
   shuffle-walks 𝓣 k₁ k₂ k₃ k₄ = walked 𝓤 H A shuffle.ended stayed (shuffle.clauses 𝓤 H A mem run) (WpFn 𝓤 H (𝓣 .C) (𝓣 .Λ) code.function)
       (λ κs. (slice-vals, (slice-vals, (uint-vals w64, (slice-vals, (slice-vals, tt)))))) (λ κs. (shr-slice-tells (named 0) (κs .0) u64, (shr-slice-tells (named 1) (κs .1 .0) u64, (uint-tells w64, (mut-slice-tells (named 2) (κs .1 .1 .0) u64, (mut-slice-tells (named 3) (κs .1 .1 .1 .0) T.the-row, tt))))))
@@ -350,7 +352,7 @@ module _ {M : Type 1} (𝓤 : URA M) (H : Heap 𝓤) (A : Atoms 𝓤) (W : Given
       (a .0 .name) (a .1 .0 .name) (a .1 .1 .1 .0 .name) (a .1 .1 .1 .1 .0 .name) (a .0 .now) (a .1 .0 .now) (a .1 .1 .0) (a .1 .1 .1 .0 .now) (a .1 .1 .1 .1 .0 .now) (are .0 .0 .1) (are .1 .0 .0 .1) (are .1 .1 .0 .1) (are .1 .1 .1 .0 .0 .1) (are .1 .1 .1 .1 .0 .0 .1) 𝓣 k₁ k₂ k₃ k₄))
 
 shuffle-meets : {M : Type 1} (𝓤 : URA M) (H : Heap 𝓤) (A : Atoms 𝓤) (W : Given 𝓤 H A) (mem : Memory → SProp 𝓤) (run : Routine → Fun 𝓤) (𝓣 : Tables 𝓤 H)
-    → Triple 𝓤 (𝓣 .C #weighted-shuffle·begin) (Begin 𝓤 H A mem run) → Triple 𝓤 (𝓣 .C #nodes·exchange) (Exchange 𝓤 H A mem run) → Triple 𝓤 (𝓣 .C #weighted-shuffle·draw-all) (DrawAll 𝓤 H A mem run) → Triple 𝓤 (𝓣 .C #weighted-shuffle·finish) (Finish 𝓤 H A mem run)
+    → Triple 𝓤 (𝓣 .C #shuffle-steps·begin) (Begin 𝓤 H A mem run) → Triple 𝓤 (𝓣 .C #nodes·exchange) (Exchange 𝓤 H A mem run) → Triple 𝓤 (𝓣 .C #weighted-shuffle·draw-all) (DrawAll 𝓤 H A mem run) → Triple 𝓤 (𝓣 .C #shuffle-steps·finish) (Finish 𝓤 H A mem run)
     → Meets 𝓤 H A shuffle.signature (WpFn 𝓤 H (𝓣 .C) (𝓣 .Λ) code.function) (shuffle.spec 𝓤 H A mem run)
 shuffle-meets 𝓤 H A W mem run 𝓣 k₁ k₂ k₃ k₄ = walk-meets 𝓤 H A shuffle.ended stayed W
     (goes-none-slice 𝓤 H A W 4 (0 ∷ []) tt (plain (λ _. u64)) yes, (goes-none-slice 𝓤 H A W 4 (1 ∷ []) tt (plain (λ _. u64)) yes, (goes-none 𝓤 H A W 4 (λ _. usize) yes (λ κs x f. refl), (goes-slice 𝓤 H A W 4 2 tt (plain (λ _. u64)), (goes-slice 𝓤 H A W 4 3 tt (plain (λ _. T.the-row)), tt)))))
@@ -362,7 +364,7 @@ shuffle-spec 𝓤 H 𝓜 𝓖 𝓡 =
     entered 𝓤 H (tripleOf 𝓤 H (𝓖 .A) shuffle.signature (shuffle.spec 𝓤 H (𝓖 .A) (𝓜 .mem) (𝓡 .run)))
     (tables 𝓤 H 𝓜 𝓡 code.env .C) (tables 𝓤 H 𝓜 𝓡 code.env .Λ) #weighted-shuffle·shuffle code.function (code.unfolded 𝓤 H 𝓜 𝓡)
     (shuffle-meets 𝓤 H (𝓖 .A) (givenOf 𝓤 H 𝓜 𝓖) (𝓜 .mem) (𝓡 .run) (tablesOf 𝓤 H 𝓜 (tables 𝓤 H 𝓜 𝓡 code.env))
-    (cited 𝓤 H (Begin 𝓤 H (𝓖 .A) (𝓜 .mem) (𝓡 .run)) 𝓜 𝓡 code.env #weighted-shuffle·begin begin-def.routine code.calls-weighted-shuffle·begin·begin (begin-thm.met 𝓤 H 𝓜 𝓖 𝓡))
+    (cited 𝓤 H (Begin 𝓤 H (𝓖 .A) (𝓜 .mem) (𝓡 .run)) 𝓜 𝓡 code.env #shuffle-steps·begin begin-def.routine code.calls-shuffle-steps·begin·begin (begin-thm.met 𝓤 H 𝓜 𝓖 𝓡))
     (cited 𝓤 H (Exchange 𝓤 H (𝓖 .A) (𝓜 .mem) (𝓡 .run)) 𝓜 𝓡 code.env #nodes·exchange exchange-def.routine code.calls-nodes·exchange·exchange (exchange-thm.met 𝓤 H 𝓜 𝓖 𝓡))
     (cited 𝓤 H (DrawAll 𝓤 H (𝓖 .A) (𝓜 .mem) (𝓡 .run)) 𝓜 𝓡 code.env #weighted-shuffle·draw-all draw-all-def.routine code.calls-weighted-shuffle·draw·draw-all (draw-all-thm.met 𝓤 H 𝓜 𝓖 𝓡))
-    (cited 𝓤 H (Finish 𝓤 H (𝓖 .A) (𝓜 .mem) (𝓡 .run)) 𝓜 𝓡 code.env #weighted-shuffle·finish finish-def.routine code.calls-weighted-shuffle·finish·finish (finish-thm.met 𝓤 H 𝓜 𝓖 𝓡)))
+    (cited 𝓤 H (Finish 𝓤 H (𝓖 .A) (𝓜 .mem) (𝓡 .run)) 𝓜 𝓡 code.env #shuffle-steps·finish finish-def.routine code.calls-shuffle-steps·finish·finish (finish-thm.met 𝓤 H 𝓜 𝓖 𝓡)))

@@ -52,9 +52,9 @@ use Rattle.nodes.proofs.node.Node.Laws as N′
 use Rattle.nodes.proofs.CallLent.{Owns}
 use Rattle.nodes.proofs.RunCalls.{node-owned}
 use Rattle.nodes.proofs.Spread.{spreads, gathers}
-use Rattle.weighted_shuffle.specs.declared.answers.ShuffleAnswer.{ShuffleAnswer}
-use Rattle.weighted_shuffle.proofs.answers.ShuffleAnswer as S
-use Rattle.weighted_shuffle.proofs.answers.ShuffleAnswer.Laws as S′
+use Rattle.shuffle_steps.specs.declared.answers.ShuffleAnswer.{ShuffleAnswer}
+use Rattle.shuffle_steps.proofs.answers.ShuffleAnswer as S
+use Rattle.shuffle_steps.proofs.answers.ShuffleAnswer.Laws as S′
 use Rattle.weighted_shuffle.proofs.EntryCalls.{Shuffle, calls-shuffle}
 use Rattle.weighted_shuffle.proofs.shuffle.shuffle.Symbol as shuffle-def
 use Rattle.weighted_shuffle.proofs.shuffle.shuffle.Symbol.{name as #weighted-shuffle·shuffle}

@@ -49,11 +49,12 @@ use Rattle.nodes.proofs.node.Node as N
 use Rattle.nodes.proofs.Cells.{holds, vacant}
 use Rattle.nodes.proofs.CallLent.{Owns, Sees}
 use Rattle.tree.specs.Sizes.{sizes}
-use Rattle.weighted_shuffle.specs.declared.answers.ShuffleAnswer.{ShuffleAnswer}
-use Rattle.weighted_shuffle.specs.Calls.{shuffled, nodesAfter}
-use Rattle.weighted_shuffle.specs.Answers.{shuffleAnswer}
-use Rattle.weighted_shuffle.proofs.answers.ShuffleAnswer as S
-use Rattle.weighted_shuffle.proofs.answers.ShuffleAnswer.Laws as S′
+use Rattle.shuffle_steps.specs.declared.answers.ShuffleAnswer.{ShuffleAnswer}
+use Rattle.shuffle_steps.specs.Calls.{shuffled}
+use Rattle.shuffle_steps.specs.Answers.{shuffleAnswer}
+use Rattle.shuffle_steps.proofs.answers.ShuffleAnswer as S
+use Rattle.shuffle_steps.proofs.answers.ShuffleAnswer.Laws as S′
+use Rattle.weighted_shuffle.specs.Calls.{nodesAfter}
 use Rattle.nodes.proofs.Says.{says-four}
 use Rattle.weighted_shuffle.proofs.EntryCalls.{Shuffle, calls-shuffle}
 use Rattle.weighted_shuffle.proofs.shuffle.shuffle.Symbol as shuffle-def

@@ -1,0 +1,4 @@
+pub mod Order
+pub mod Calls
+pub mod Answers
+pub mod Progress
