@@ -6,10 +6,10 @@ use Rattle.stake_weighted.specs.declared.SampleAnswer.{SampleAnswer}
 use Rattle.stake_weighted.specs.declared.SampleAnswer.the-variants as sample
 use Rattle.stake_weighted.specs.declared.QuorumAnswer.{QuorumAnswer}
 use Rattle.stake_weighted.specs.declared.QuorumAnswer.the-variants as quorum
-use Rattle.decaying_acceptance.specs.declared.answers.SampleAnswer.{SampleAnswer as TriedAnswer}
-use Rattle.decaying_acceptance.specs.declared.answers.SampleAnswer.the-variants as tried
-use Rattle.decaying_acceptance.specs.declared.answers.QuorumAnswer.{QuorumAnswer as TriedQuorumAnswer}
-use Rattle.decaying_acceptance.specs.declared.answers.QuorumAnswer.the-variants as triedQuorum
+use Rattle.decaying_seats.specs.declared.answers.SampleAnswer.{SampleAnswer as TriedAnswer}
+use Rattle.decaying_seats.specs.declared.answers.SampleAnswer.the-variants as tried
+use Rattle.decaying_seats.specs.declared.answers.QuorumAnswer.{QuorumAnswer as TriedQuorumAnswer}
+use Rattle.decaying_seats.specs.declared.answers.QuorumAnswer.the-variants as triedQuorum
 use Rattle.partition.specs.declared.answers.PartitionAnswer.{PartitionAnswer}
 use Rattle.partition.specs.declared.answers.PartitionAnswer.the-variants as partition
 use Rattle.fait_accompli.specs.declared.answers.CommitteeAnswer.{CommitteeAnswer}

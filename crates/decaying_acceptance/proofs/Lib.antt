@@ -1,3 +1,2 @@
-pub mod SeatLaws
 pub mod CallLaws
 pub mod WithinLaws

@@ -11,7 +11,7 @@ use Rattle.words.specs.Outcome.{Outcome, accepted, next}
 use Rattle.words.proofs.Outcomes.{Went, went, unrefused}
 use Rattle.tries.specs.declared.Seat.{Seat}
 use Rattle.tries.specs.Tries.{seat}
-use Rattle.decaying_acceptance.specs.Seats.{raised, Committee, committee}
+use Rattle.decaying_seats.specs.Seats.{raised, Committee, committee}
 use Rattle.decaying_acceptance.specs.Calls.{oneChecks, quorumChecks}
 use Rattle.decaying_acceptance.specs.Laws.{SeatWithin, OneWithin, CommitteeWithin, QuorumWithin}
 use Rattle.tries.proofs.TryLaws.{seat-is}

@@ -7,7 +7,7 @@ use Rattle.refusals.specs.Refusals.{Check, lowest, listLength, size, triesAllow
 use Rattle.words.specs.Outcome.{Outcome, unless}
 use Rattle.tries.specs.declared.Seat.{Seat}
 use Rattle.tries.specs.Tries.{seat}
-use Rattle.decaying_acceptance.specs.Seats.{Committee, committee}
+use Rattle.decaying_seats.specs.Seats.{Committee, committee}
 
 -- `sample_one`: 1, 3, 4, 7, 8, 9, 10 with k = 1
 abbrev pub oneChecks : ℕ → List ℕ → List ℕ → Float → List Check

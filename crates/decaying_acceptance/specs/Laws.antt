@@ -7,7 +7,7 @@ use lib.Ieee.{Float}
 use Rattle.words.specs.Outcome.{accepted}
 use Rattle.draws.specs.Weighted.{Placed, AllPlaced}
 use Rattle.tries.specs.declared.Seat.{Seat}
-use Rattle.decaying_acceptance.specs.Seats.{Committee}
+use Rattle.decaying_seats.specs.Seats.{Committee}
 use Rattle.decaying_acceptance.specs.Calls.{one, quorum}
 
 -- one seat is a validator with a stake, after at least one try and at most those allowed

@@ -1,4 +1,2 @@
-pub mod Seats
 pub mod Calls
-pub mod Answers
 pub mod Laws

@@ -1,17 +1,17 @@
 // `DecayingAcceptanceSampler`.
-use crate::answers::QuorumAnswer;
-use crate::answers::SampleAnswer;
 use crate::checks::refusal;
 use crate::one::draw_one;
-use crate::quorum::clear;
 use crate::quorum::draw_quorum;
+use decaying_seats::answers::QuorumAnswer;
+use decaying_seats::answers::SampleAnswer;
+use decaying_seats::quorum::clear;
 use refusals::Refusal;
 ghost use mathlib.Core.Path.{_≡_};
 ghost use lib.ListN.{length, drop, replicate};
 ghost use Rattle.words.specs.Outcome.{bufferAfter};
-ghost use Rattle.decaying_acceptance.specs.Seats.{seatIds};
+ghost use Rattle.decaying_seats.specs.Seats.{seatIds};
+ghost use Rattle.decaying_seats.specs.Answers.{sampleAnswer, countsAfter, quorumAnswer, zeros};
 ghost use Rattle.decaying_acceptance.specs.Calls.{one, quorum};
-ghost use Rattle.decaying_acceptance.specs.Answers.{sampleAnswer, countsAfter, quorumAnswer, zeros};
 
 // The tries per seat that the original allows.
 pub const MAX_TRIES_PER_SAMPLE: usize = 100_000;

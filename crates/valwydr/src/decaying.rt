@@ -3,9 +3,9 @@ use decaying_acceptance::DecayingAcceptanceSampler;
 ghost use mathlib.Core.Path.{_≡_};
 ghost use lib.ListN.{length, drop, replicate};
 ghost use Rattle.words.specs.Outcome.{bufferAfter};
-ghost use Rattle.decaying_acceptance.specs.Seats.{seatIds};
+ghost use Rattle.decaying_seats.specs.Seats.{seatIds};
+ghost use Rattle.decaying_seats.specs.Answers.{sampleAnswer, countsAfter, quorumAnswer, zeros};
 ghost use Rattle.decaying_acceptance.specs.Calls.{one, quorum};
-ghost use Rattle.decaying_acceptance.specs.Answers.{sampleAnswer, countsAfter, quorumAnswer, zeros};
 ghost use Rattle.answers.specs.Told.{result, array, triedTold, triedQuorumTold};
 
 // One validator, whose count rises by 1. The answer: its id, the tries made, the words read.

@@ -10,8 +10,8 @@ use lib.Seq.{length-take-le}
 use Rattle.refusals.specs.Refusals.{countLimit}
 use Rattle.words.specs.Outcome.{Outcome, bufferAfter}
 use Rattle.draws.proofs.WeightedLaws.{Front, front}
-use Rattle.decaying_acceptance.specs.Seats.{Committee, committee, seatIds}
-use Rattle.decaying_acceptance.specs.Answers.{quorumAnswer, zeros}
+use Rattle.decaying_seats.specs.Seats.{Committee, committee, seatIds}
+use Rattle.decaying_seats.specs.Answers.{quorumAnswer, zeros}
 use Rattle.decaying_acceptance.proofs.CallLaws.{Admitted, admitted}
 use borrow.Author.Needs.{needs}
 use Rattle.decaying_acceptance.proofs.quorum.quorum_in_scratch.Statement.{statement}

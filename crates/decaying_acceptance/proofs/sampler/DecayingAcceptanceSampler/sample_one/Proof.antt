@@ -4,7 +4,7 @@ use denote.Ref.{now}
 use lib.ListN.{drop}
 use Rattle.words.specs.Outcome.{Outcome}
 use Rattle.tries.specs.declared.Seat.{Seat}
-use Rattle.decaying_acceptance.specs.Answers.{sampleAnswer, countsAfter}
+use Rattle.decaying_seats.specs.Answers.{sampleAnswer, countsAfter}
 use Rattle.decaying_acceptance.proofs.CallLaws.{one-goes-on, one-turned-down}
 use borrow.Author.Needs.{needs}
 use Rattle.decaying_acceptance.proofs.sampler.DecayingAcceptanceSampler.sample_one.Statement.{

@@ -4,8 +4,8 @@ use denote.Ref.{now}
 use lib.ListN.{length, take, drop}
 use Rattle.words.specs.Outcome.{Outcome, bufferAfter}
 use Rattle.words.proofs.Outcomes.{goes-on, turned-down}
-use Rattle.decaying_acceptance.specs.Seats.{Committee, committee, seatIds}
-use Rattle.decaying_acceptance.specs.Answers.{quorumAnswer, zeros}
+use Rattle.decaying_seats.specs.Seats.{Committee, committee, seatIds}
+use Rattle.decaying_seats.specs.Answers.{quorumAnswer, zeros}
 use borrow.Author.Needs.{needs}
 use Rattle.decaying_acceptance.proofs.sampler.DecayingAcceptanceSampler.sample_quorum.Statement.{
   statement,

@@ -1,4 +1,4 @@
--- `decaying_acceptance::quorum::fill_quorum` meets its contract: the seats are drawn from a copy of the counts, and the outcome is the answer. Only then are
+-- `decaying_seats::quorum::fill_quorum` meets its contract: the seats are drawn from a copy of the counts, and the outcome is the answer. Only then are
 -- the seats stored and the counts cleared.
 use Prim.Native.Nat.{ℕ}
 use mathlib.Core.Path.{_≡_, sym, ap, _∙_}
@@ -9,15 +9,15 @@ use lib.ListN.{length, take, drop, replicate}
 use lib.Seq.{length-take-le}
 use Rattle.words.specs.Outcome.{Outcome}
 use Rattle.words.specs.Stream.{stream}
-use Rattle.decaying_acceptance.specs.declared.quorum.DrawnSeats.{DrawnSeats}
-use Rattle.decaying_acceptance.specs.declared.quorum.DrawnSeats.the-variants.{Drawn, Refused}
-use Rattle.decaying_acceptance.specs.Seats.{committee}
-use Rattle.decaying_acceptance.specs.Answers.{Seated, seated, seatsSays}
-use Rattle.decaying_acceptance.proofs.SeatLaws.{seated-no-longer}
-use Rattle.decaying_acceptance.proofs.CallLaws.{quorum-accepted, quorum-refused, front-held, front-limit}
+use Rattle.decaying_seats.specs.declared.quorum.DrawnSeats.{DrawnSeats}
+use Rattle.decaying_seats.specs.declared.quorum.DrawnSeats.the-variants.{Drawn, Refused}
+use Rattle.decaying_seats.specs.Seats.{committee}
+use Rattle.decaying_seats.specs.Answers.{Seated, seated, seatsSays}
+use Rattle.decaying_seats.proofs.SeatLaws.{seated-no-longer}
+use Rattle.decaying_seats.proofs.AnswerLaws.{quorum-accepted, quorum-refused, front-held, front-limit}
 use borrow.Author.Needs.{needs}
-use Rattle.decaying_acceptance.proofs.quorum.fill_quorum.Statement.{statement}
-use Rattle.decaying_acceptance.proofs.quorum.fill_quorum.Tie as tie
+use Rattle.decaying_seats.proofs.quorum.fill_quorum.Statement.{statement}
+use Rattle.decaying_seats.proofs.quorum.fill_quorum.Tie as tie
 
 abbrev copied : tie.After-draw-seats → tie.After-store-u32
 copied c = c .before .before .before .before .before .before .before .before .before

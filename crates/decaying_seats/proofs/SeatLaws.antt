@@ -15,8 +15,8 @@ use Rattle.words.specs.Outcome.{Outcome, refused, accepted, next}
 use Rattle.words.proofs.Outcomes.{NoLonger, accepted-no-longer, next-no-longer}
 use Rattle.tries.specs.declared.Seat.{Seat}
 use Rattle.tries.specs.Tries.{seat}
-use Rattle.decaying_acceptance.specs.Seats.{raised, Committee, committee, seatIds}
-use Rattle.decaying_acceptance.specs.Answers.{Seated, seated}
+use Rattle.decaying_seats.specs.Seats.{raised, Committee, committee, seatIds}
+use Rattle.decaying_seats.specs.Answers.{Seated, seated}
 use Rattle.tries.proofs.TryLaws.{seat-no-longer}
 
 -- what is drawn stands after seats that were drawn before, and its tries add to theirs

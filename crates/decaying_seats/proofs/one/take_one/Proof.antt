@@ -1,4 +1,4 @@
--- `decaying_acceptance::one::take_one` meets its contract: the outcome of drawing the seat is the answer, and the count there rises.
+-- `decaying_seats::one::take_one` meets its contract: the outcome of drawing the seat is the answer, and the count there rises.
 use Prim.Native.Nat.{ℕ, _<_}
 use mathlib.Core.Path.{_≡_, sym, ap, _∙_}
 use mathlib.Core.List.{List}
@@ -12,10 +12,10 @@ use Rattle.tries.specs.declared.DrawnSeat.the-variants.{Drawn, Refused}
 use Rattle.tries.specs.Tries.{seat}
 use Rattle.tries.specs.Answers.{seatSays}
 use Rattle.tries.proofs.TryLaws.{Seated, seat-is, seat-no-longer}
-use Rattle.decaying_acceptance.proofs.CallLaws.{one-accepted, one-refused}
+use Rattle.decaying_seats.proofs.AnswerLaws.{one-accepted, one-refused}
 use borrow.Author.Needs.{needs}
-use Rattle.decaying_acceptance.proofs.one.take_one.Statement.{statement}
-use Rattle.decaying_acceptance.proofs.one.take_one.Tie as tie
+use Rattle.decaying_seats.proofs.one.take_one.Statement.{statement}
+use Rattle.decaying_seats.proofs.one.take_one.Tie as tie
 
 abbrev listed-of : tie.After-draw-seat → tie.After-listed
 listed-of c = c .before .before .before .before .before

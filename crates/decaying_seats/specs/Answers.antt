@@ -4,13 +4,13 @@ use mathlib.Core.List.{List}
 use lib.ListN.{length, replicate}
 use Rattle.words.specs.Outcome.{Outcome, refused, accepted, next, wordsRead}
 use Rattle.tries.specs.declared.Seat.{Seat}
-use Rattle.decaying_acceptance.specs.declared.quorum.DrawnSeats.{DrawnSeats}
-use Rattle.decaying_acceptance.specs.declared.quorum.DrawnSeats.the-variants as drawnSeats
-use Rattle.decaying_acceptance.specs.declared.answers.SampleAnswer.{SampleAnswer}
-use Rattle.decaying_acceptance.specs.declared.answers.SampleAnswer.the-variants as sample
-use Rattle.decaying_acceptance.specs.declared.answers.QuorumAnswer.{QuorumAnswer}
-use Rattle.decaying_acceptance.specs.declared.answers.QuorumAnswer.the-variants as quorum
-use Rattle.decaying_acceptance.specs.Seats.{Committee, raised, seatIds}
+use Rattle.decaying_seats.specs.declared.quorum.DrawnSeats.{DrawnSeats}
+use Rattle.decaying_seats.specs.declared.quorum.DrawnSeats.the-variants as drawnSeats
+use Rattle.decaying_seats.specs.declared.answers.SampleAnswer.{SampleAnswer}
+use Rattle.decaying_seats.specs.declared.answers.SampleAnswer.the-variants as sample
+use Rattle.decaying_seats.specs.declared.answers.QuorumAnswer.{QuorumAnswer}
+use Rattle.decaying_seats.specs.declared.answers.QuorumAnswer.the-variants as quorum
+use Rattle.decaying_seats.specs.Seats.{Committee, raised, seatIds}
 
 -- of `sample_one`: the validator, the tries made and the words read
 abbrev pub sampleAnswer : List ℕ → Outcome Seat → SampleAnswer

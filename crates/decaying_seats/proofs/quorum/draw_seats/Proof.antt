@@ -1,4 +1,4 @@
--- `decaying_acceptance::quorum::draw_seats` meets its contract. The invariant: the first i seats, and those still to come, are the seats of the whole.
+-- `decaying_seats::quorum::draw_seats` meets its contract. The invariant: the first i seats, and those still to come, are the seats of the whole.
 use Prim.Native.Nat.{_-_, _<_}
 use mathlib.Core.Path.{_≡_, sym, ap, _∙_}
 use native.Mathlib.Omega.{arith}
@@ -11,10 +11,10 @@ use Rattle.tries.specs.declared.DrawnSeat.the-variants.{Drawn, Refused}
 use Rattle.tries.specs.Tries.{seat}
 use Rattle.tries.specs.Answers.{seatSays}
 use Rattle.tries.proofs.TryLaws.{Seated, seat-is}
-use Rattle.decaying_acceptance.proofs.SeatLaws.{Drawing, drawing-none, drawing-next, drawing-stopped, drawing-all}
+use Rattle.decaying_seats.proofs.SeatLaws.{Drawing, drawing-none, drawing-next, drawing-stopped, drawing-all}
 use borrow.Author.Needs.{needs}
-use Rattle.decaying_acceptance.proofs.quorum.draw_seats.Statement.{statement}
-use Rattle.decaying_acceptance.proofs.quorum.draw_seats.Tie as tie
+use Rattle.decaying_seats.proofs.quorum.draw_seats.Statement.{statement}
+use Rattle.decaying_seats.proofs.quorum.draw_seats.Tie as tie
 
 abbrev Inv-loop : tie.InvT-loop
 Inv-loop list words₀ stakes sums counts₀ max-samples tries-allowed seats₀ tries₀ i₀ words counts seats tries i =

@@ -1,10 +1,10 @@
--- `decaying_acceptance::quorum::clear` meets its contract. The invariant: the first i counts are 0.
+-- `decaying_seats::quorum::clear` meets its contract. The invariant: the first i counts are 0.
 use Prim.Native.Nat.{_-_}
 use lib.ListN.{length, replicate}
 use Rattle.laws.proofs.Buffers.{Stored, stored-none, filled-next, filled-all}
 use borrow.Author.Needs.{needs}
-use Rattle.decaying_acceptance.proofs.quorum.clear.Statement.{statement}
-use Rattle.decaying_acceptance.proofs.quorum.clear.Tie as tie
+use Rattle.decaying_seats.proofs.quorum.clear.Statement.{statement}
+use Rattle.decaying_seats.proofs.quorum.clear.Tie as tie
 
 abbrev Inv-loop : tie.InvT-loop
 Inv-loop counts₀ i₀ counts i = Stored (replicate (length counts₀) 0) counts₀ counts i
