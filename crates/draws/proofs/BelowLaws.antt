@@ -1,9 +1,9 @@
 -- Laws of drawing below m, one word at a time.
-use Prim.Native.Nat.{ℕ, _+_, _-_, _%_, _^_, _≤_, _<_}
+use Prim.Native.Nat.{ℕ, suc, _+_, _-_, _*_, _/_, _%_, _^_, _≤_, _<_}
 use mathlib.Core.Path.{_≡_, refl, sym, ap, _∙_}
 use mathlib.Core.Bool.{Bool, true, false, cond, not, _&&_}
 use mathlib.Core.List.{List, [], _∷_}
-use native.Mathlib.Nat.{mod-lt, mod-eq-sub-mod}
+use native.Mathlib.Nat.{mod-lt, mod-add-div', suc-mul, mul-le-mul-right, lt-of-mul-lt-mul-right}
 use native.Mathlib.Omega.{arith}
 use lib.Dec.{leb, eqb}
 use borrow.Author.Tests.{lt-leb, le-leb, ne-eqb, leb-true, leb-false}
@@ -24,17 +24,24 @@ module _ (m w : ℕ) where
   pub high-skipped : w < 2 ^ 64 → 2 ^ 64 - 2 ^ 64 % m ≤ w → skipped m w ≡ true
   high-skipped s h = rw (ne-eqb (2 ^ 64 % m) 0 (λ e. omega arith), le-leb (2 ^ 64 - 2 ^ 64 % m) w h)
 
-  -- 2^64 mod m, as (2^64 − 1 − m + 1) mod m
-  pub over : m < 2 ^ 64 → (0xffff_ffff_ffff_ffff - m + 1) % m ≡ 2 ^ 64 % m
-  over f = let e : 0xffff_ffff_ffff_ffff - m + 1 ≡ 2 ^ 64 - m = omega arith in ap (_% m) e ∙ sym (mod-eq-sub-mod {n = 2 ^ 64} {m = m} (omega arith))
-
-  -- the test of the last word that counts
-  pub last-word : 0 < m → m < 2 ^ 64 → w < 2 ^ 64 → leb w (0xffff_ffff_ffff_ffff - (0xffff_ffff_ffff_ffff - m + 1) % m) ≡ not (skipped m w)
-  last-word pos f s = rw (over f) (go (leb w (0xffff_ffff_ffff_ffff - 2 ^ 64 % m)) refl)
+  -- the test by the multiple of m below the word: the m numbers from it on fit where those of its quotient do
+  pub whole-block : 0 < m → m < 2 ^ 64 → w < 2 ^ 64 → leb (w - w % m) (0xffff_ffff_ffff_ffff - m + 1) ≡ not (skipped m w)
+  whole-block pos f s = go (leb (w - w % m) (0xffff_ffff_ffff_ffff - m + 1)) refl
     where
-      go : (b : Bool) → leb w (0xffff_ffff_ffff_ffff - 2 ^ 64 % m) ≡ b → b ≡ not (skipped m w)
-      go true e = rw (low-counts (omega (arith, leb-true w (0xffff_ffff_ffff_ffff - 2 ^ 64 % m) e, mod-lt (2 ^ 64) pos)))
-      go false e = rw (high-skipped s (omega (arith, leb-false w (0xffff_ffff_ffff_ffff - 2 ^ 64 % m) e)))
+      -- w and 2^64 as multiples of m and remainders, and the multiple after that of w
+      next : suc (w / m) * m ≡ w - w % m + m
+      next = omega (arith, mod-add-div' w m, suc-mul (w / m) m)
+
+      above : suc (2 ^ 64 / m) * m ≡ 2 ^ 64 - 2 ^ 64 % m + m
+      above = omega (arith, mod-add-div' (2 ^ 64) m, suc-mul (2 ^ 64 / m) m)
+
+      go : (b : Bool) → leb (w - w % m) (0xffff_ffff_ffff_ffff - m + 1) ≡ b → b ≡ not (skipped m w)
+      go true e =
+          let l : suc (w / m) ≤ 2 ^ 64 / m = omega (arith, lt-of-mul-lt-mul-right m {m = suc (w / m)} {n = suc (2 ^ 64 / m)} (omega (arith, next, above, leb-true (w - w % m) (0xffff_ffff_ffff_ffff - m + 1) e, mod-lt (2 ^ 64) pos))) in
+          rw (low-counts (omega (arith, mul-le-mul-right m l, next, mod-add-div' (2 ^ 64) m, mod-lt w pos)))
+      go false e =
+          let l : 2 ^ 64 / m ≤ w / m = omega (arith, lt-of-mul-lt-mul-right m {m = 2 ^ 64 / m} {n = suc (w / m)} (omega (arith, next, mod-add-div' (2 ^ 64) m, leb-false (w - w % m) (0xffff_ffff_ffff_ffff - m + 1) e))) in
+          rw (high-skipped s (omega (arith, mul-le-mul-right m l, mod-add-div' (2 ^ 64) m, mod-add-div' w m)))
 
   pub takes : (left s : List ℕ) → s ≡ w ∷ left → skipped m w ≡ false → below m s ≡ accepted (w % m) left
   takes left s e h = rw (e, h)

@@ -9,6 +9,10 @@ use lib.ListN.{length, getD}
 use borrow.Author.Tests.{ltb-true, ltb-false, lt-ltb, le-ltb}
 use Rattle.draws.specs.Weighted.{Rising, firstAbove}
 
+one-more : (t : Bool) {m n : ℕ} → m ≤ n → cond t 0 (suc m) ≤ suc n
+one-more true h = omega arith
+one-more false h = omega arith
+
 -- a number of a rising list that is at most v stands before that place
 pub before-above : (xs : List ℕ) (v i : ℕ) → Rising xs → i < length xs → getD xs i 0 ≤ v → i < firstAbove xs v
 before-above [] v i r l h = absurd (omega arith)
@@ -16,10 +20,6 @@ before-above (x ∷ xs) v zero r l h = rw (le-ltb v x h) (omega arith)
 before-above (x ∷ xs) v (suc i) r l h =
     let b : i < firstAbove xs v = before-above xs v i (λ a b g m. r (suc a) (suc b) (omega arith) (omega arith)) (omega arith) h in
     rw (le-ltb v x (omega (arith, r 0 (suc i) (omega arith) l))) (omega arith)
-
-one-more : (t : Bool) {m n : ℕ} → m ≤ n → cond t 0 (suc m) ≤ suc n
-one-more true h = omega arith
-one-more false h = omega arith
 
 -- one that exceeds v does not
 pub above-from : (xs : List ℕ) (v i : ℕ) → i < length xs → v < getD xs i 0 → firstAbove xs v ≤ i
@@ -32,7 +32,7 @@ pub first-above-le : (xs : List ℕ) (v : ℕ) → firstAbove xs v ≤ length xs
 first-above-le [] v = omega arith
 first-above-le (x ∷ xs) v = one-more (ltb v x) (first-above-le xs v)
 
--- low after parts of equal length up to end: it went past each whose last place comes before f
+-- where a search that started at a place at most f is, after parts of equal length up to end: past each whose last place comes before f
 pub record Moved (f part end low : ℕ) : Type 0 where
   pub from : low ≤ f
   pub behind : low ≤ end

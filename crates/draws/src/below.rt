@@ -15,18 +15,12 @@ pub enum Below {
     NoWord,
 }
 
-// Whether a word counts and is not skipped. One at most 2^64 - 1 - m always does, since 2^64 mod m is below m: only for the rare
-// others is that remainder found, as (2^64 - m) mod m.
+// Whether a word counts and is not skipped: it does where the m numbers from its multiple of m on are all below 2^64.
 fn counts(m: u64, word: u64) -> bool
     requires { ⌜ 0 < m ⌝ }
     ensures { λ r. ⌜ r ≡ not (skipped m word) ⌝ }
 {
-    let sure = 0xffff_ffff_ffff_ffff - m;
-    if word <= sure {
-        return true;
-    }
-    let over = (sure + 1) % m;
-    word <= 0xffff_ffff_ffff_ffff - over
+    word - word % m <= 0xffff_ffff_ffff_ffff - m + 1
 }
 
 // A value below m, each for equally many words.

@@ -93,7 +93,7 @@ fn first_above_in(sums: &[u64], v: u64, low: usize, size: usize) -> usize
     at
 }
 
-// The smallest place of a rising list whose number exceeds v, or the list's length: by a search that each step narrows to a
+// The smallest place of a rising list whose number exceeds v, or the list's length: each step of the search leaves about a
 // quarter of the places.
 pub fn first_above(sums: &[u64], v: u64) -> usize
     requires { ⌜ Rising (now sums) ⌝ }

@@ -1,18 +1,17 @@
 -- Laws of a node by value: where a value falls, and the exchange of its sums.
 use Prim.Native.Nat.{ℕ, suc, _+_, _-_, _≤_, _<_}
 use mathlib.Core.Path.{_≡_, refl, sym, ap, _∙_}
-use mathlib.Core.Bool.{Bool, true, false, cond}
-use mathlib.Core.List.{List, [], _∷_, _++_}
+use mathlib.Core.List.{List, _++_}
 use native.Mathlib.Numerals.{add-one}
 use native.Mathlib.Omega.{arith}
-use lib.Dec.{ltb}
 use lib.ListN.{length, getD, set, take, drop, length-drop, length-set, take-append-drop, List·getD-eq-default}
 use lib.Seq.{length-take-le, drop-drop, drop-set-add, take-set-le, getD-drop, getD-take}
 use Rattle.laws.specs.Sums.{total, runningSums}
 use Rattle.laws.proofs.Sums.{total-take-suc, total-take-mono, length-running, running-at}
 use Rattle.laws.proofs.Buffers.{Stored, stored-none, stored-next, stored-ahead, stored-all, stored-whole}
-use Rattle.draws.specs.Weighted.{firstAbove, chosen}
+use Rattle.draws.specs.Weighted.{chosen}
 use Rattle.draws.proofs.WeightedLaws.{Chosen, chosen-at, first-above-is}
+use Rattle.draws.proofs.SearchLaws.{first-above-le}
 use Rattle.nodes.specs.declared.node.Field.{Field}
 use Rattle.nodes.specs.Node.{fieldOf}
 
@@ -41,15 +40,6 @@ module _ {sums : List ℕ} {v j left : ℕ} (l : Looking sums v j left) where
       (λ k g. omega (arith, running-at 0 sums k (omega (arith, l .within)), total-take-mono sums (suc k) j g, l .back))
       (λ g. absurd (omega (arith, length-running 0 sums)))) in
       rw (c, e, List·getD-eq-default sums 0 h)
-
--- the answer is a place, or the length
-first-above-le : (xs : List ℕ) (v : ℕ) → firstAbove xs v ≤ length xs
-first-above-le [] v = omega arith
-first-above-le (x ∷ xs) v = go (ltb v x) (first-above-le xs v)
-  where
-    go : (t : Bool) → firstAbove xs v ≤ length xs → cond t 0 (suc (firstAbove xs v)) ≤ suc (length xs)
-    go true h = omega arith
-    go false h = omega arith
 
 -- so far j of a node's sums stand from place first on, and as many that stood there are in the node
 pub record Swapping (first : ℕ) (sums₀ node₀ sums node : List ℕ) (j : ℕ) : Type 0 where

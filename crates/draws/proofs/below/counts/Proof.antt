@@ -1,31 +1,24 @@
 -- `draws::below::counts` meets its contract.
-use Prim.Native.Nat.{_-_, _+_, _^_}
-use native.Mathlib.Nat.{mod-lt}
-use native.Mathlib.Omega.{arith}
-use Rattle.draws.proofs.BelowLaws.{low-counts, last-word}
+use native.Mathlib.Nat.{mod-le}
+use Rattle.draws.proofs.BelowLaws.{whole-block}
 use borrow.Author.Needs.{needs}
 use Rattle.draws.proofs.below.counts.Statement.{statement}
 use Rattle.draws.proofs.below.counts.Tie as tie
 
-sub-sure : tie.Need-sub-sure
-sub-sure c = search needs
-
-returns : tie.Need-returns
-returns c =
-    let a = c .before .args in
-    rw (low-counts (a .m) (a .word) (omega (arith, mod-lt (2 ^ 64) (c .before .pre))))
-
-add-over : tie.Need-add-over
-add-over c = search needs
-
-rem-over : tie.Need-rem-over
-rem-over c = search needs
+rem-result : tie.Need-rem-result
+rem-result c = search needs
 
 sub-result : tie.Need-sub-result
-sub-result c = omega (arith, mod-lt (0xffff_ffff_ffff_ffff - c .before .args .m + 1) (c .before .pre))
+sub-result c = mod-le (c .args .word) (c .args .m)
 
-returns-2 : tie.Need-returns-2
-returns-2 c = let s = c .before in last-word (s .args .m) (s .args .word) (s .pre) (search needs) (search needs)
+sub-result-2 : tie.Need-sub-result-2
+sub-result-2 c = search needs
+
+add-result : tie.Need-add-result
+add-result c = search needs
+
+returns : tie.Need-returns
+returns c = whole-block (c .args .m) (c .args .word) (c .pre) (search needs) (search needs)
 
 pub counts-spec : {M : Type 1} → statement M
-counts-spec = tie.close (tie.spec sub-sure returns add-over rem-over sub-result returns-2)
+counts-spec = tie.close (tie.spec rem-result sub-result sub-result-2 add-result returns)

@@ -11,7 +11,7 @@ use base.Logic.{SProp, ent, emp, via, fst∗}
 use base.Fml.{Lft, GName, Share, ftrue, flft}
 use prog.Memory.{Memory}
 use prog.Routine.{Routine}
-use prog.Wp.{Heap, Env, Calls, Loops, WpFn, Tables}
+use prog.Wp.{Heap, Calls, Loops, WpFn, Tables}
 use ghost.Atoms.{Atoms}
 use contract.Monad.{Fun}
 use contract.Running.{givenOf, tables, tablesOf}
@@ -39,7 +39,7 @@ use denote.Exit.{yes}
 use Rattle.words.specs.Outcome.{Outcome, bufferAfter}
 use Rattle.nodes.specs.declared.node.Node.{Node}
 use Rattle.nodes.proofs.node.Node as N
-use Rattle.nodes.proofs.Cells.{holds, vacant}
+use Rattle.nodes.proofs.Cells.{vacant}
 use Rattle.nodes.proofs.CallLent.{Owns, Sees}
 use Rattle.nodes.proofs.Says.{says-four}
 use Rattle.tree.specs.Sizes.{sizes}
