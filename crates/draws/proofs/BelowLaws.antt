@@ -1,6 +1,6 @@
 -- Laws of drawing below m, one word at a time.
 use Prim.Native.Nat.{ℕ, suc, _+_, _-_, _*_, _/_, _%_, _^_, _≤_, _<_}
-use mathlib.Core.Path.{_≡_, refl, sym, ap, _∙_}
+use mathlib.Core.Path.{_≡_, refl}
 use mathlib.Core.Bool.{Bool, true, false, cond, not, _&&_}
 use mathlib.Core.List.{List, [], _∷_}
 use native.Mathlib.Nat.{mod-lt, mod-add-div', suc-mul, mul-le-mul-right, lt-of-mul-lt-mul-right}

@@ -1,27 +1,25 @@
 -- Laws of the calls: what holds where nothing turns them down, and what the answers of the draws say of them.
 use Prim.Native.Nat.{ℕ, _-_, _≤_}
-use mathlib.Core.Path.{_≡_, refl, sym, ap, _∙_}
+use mathlib.Core.Path.{_≡_, refl, ap, _∙_}
 use mathlib.Core.Bool.{Bool, true, false, cond}
 use mathlib.Core.List.{List, [], _∷_, _++_}
 use native.Mathlib.Omega.{arith}
-use lib.ListN.{length, getD, drop}
+use lib.ListN.{length, drop}
 use borrow.Author.Tests.{ltb-false}
 use Rattle.laws.specs.Sums.{total}
-use Rattle.refusals.specs.declared.Refusal.{Refusal}
 use Rattle.refusals.specs.declared.Refusal.the-variants.{None, Number}
 use Rattle.refusals.specs.Refusals.{lowest, listLength, size, shortBuffer, noWordLeft}
 use Rattle.refusals.proofs.CheckLaws.{passed, Listed, listed, Summed, summed, after-none, after-number}
 use Rattle.types.specs.declared.validator_index.ValidatorIndex.{ValidatorIndex}
-use Rattle.words.specs.Outcome.{Outcome, refused, accepted, next, unless, wordsRead, bufferAfter}
+use Rattle.words.specs.Outcome.{Outcome, refused, accepted, next, bufferAfter}
 use Rattle.words.proofs.Outcomes.{goes-on, turned-down}
 use Rattle.draws.specs.declared.weighted.Place.{Place}
 use Rattle.draws.specs.Below.{below}
 use Rattle.draws.specs.Weighted.{placeOf, weighted, ids}
-use Rattle.stake_weighted.specs.declared.Quorum.{Quorum}
 use Rattle.stake_weighted.specs.declared.SampleAnswer.the-variants as one
 use Rattle.stake_weighted.specs.declared.QuorumAnswer.the-variants as many
 use Rattle.stake_weighted.specs.Seats.{iid, iidSeats}
-use Rattle.stake_weighted.specs.Calls.{sampleChecks, sample, sizeChecks, sumChecks, quorumChecks, quorum}
+use Rattle.stake_weighted.specs.Calls.{sample, sizeChecks, sumChecks, quorumChecks, quorum}
 use Rattle.stake_weighted.specs.Answers.{sampleAnswer, quorumAnswer}
 
 -- the sizes of a call that they do not turn down

@@ -3,7 +3,7 @@ use fait_accompli::FaitAccompli1Sampler;
 use partition::PartitionSampler;
 ghost use mathlib.Core.Path.{_≡_};
 ghost use mathlib.Core.List.{[]};
-ghost use lib.ListN.{length, drop};
+ghost use lib.ListN.{drop};
 ghost use Rattle.words.specs.Outcome.{bufferAfter};
 ghost use Rattle.partition.specs.Seats as parted;
 ghost use Rattle.partition.specs.Calls as partition;

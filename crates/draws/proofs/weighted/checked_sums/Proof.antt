@@ -1,10 +1,10 @@
 -- `draws::weighted::checked_sums` meets its contract. The invariant is that of `running_sums`.
-use Prim.Native.Nat.{ℕ, suc, _-_, _+_, _^_, _≤_, _<_}
-use mathlib.Core.Path.{_≡_, sym, ap, _∙_}
+use Prim.Native.Nat.{ℕ, suc, _-_, _^_, _≤_, _<_}
+use mathlib.Core.Path.{sym, ap, _∙_}
 use mathlib.Core.List.{List}
 use native.Mathlib.Omega.{arith}
 use denote.Ref.{now}
-use lib.ListN.{length, getD, take}
+use lib.ListN.{length}
 use Rattle.laws.specs.Sums.{total}
 use Rattle.laws.proofs.Sums.{total-take-suc, total-take-le}
 use Rattle.refusals.specs.declared.Summed.the-variants.{Sum}

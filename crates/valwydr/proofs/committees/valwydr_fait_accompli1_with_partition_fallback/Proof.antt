@@ -1,6 +1,6 @@
 -- `valwydr::committees::valwydr_fait_accompli1_with_partition_fallback` meets its contract.
 use Prim.Native.Nat.{ℕ}
-use mathlib.Core.Path.{_≡_, ap, _∙_}
+use mathlib.Core.Path.{ap, _∙_}
 use mathlib.Core.List.{List}
 use denote.Ref.{now}
 use lib.ListN.{drop}
