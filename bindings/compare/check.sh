@@ -40,7 +40,7 @@ check_compare() {
 check_memory() {
     has valgrind || { skip memory "valgrind is not installed"; return 0; }
     python3 "$here/compare_library.py" --driver "valgrind --quiet --error-exitcode=9 $build/driver exact" \
-        --sources listed,limits,damaged --calls 8000 --seconds 30
+        --sources listed,limits,damaged --calls 6000 --seconds 30
 }
 
 seconds=20
