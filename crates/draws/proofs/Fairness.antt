@@ -12,7 +12,8 @@ use Rattle.laws.specs.Sums.{total, runningFrom}
 use Rattle.laws.specs.Counts.{countBelow}
 use Rattle.laws.proofs.Counts.{count-same, count-const, count-add, count-none, count-mod, count-div}
 use Rattle.draws.specs.Below.{skipped}
-use Rattle.draws.specs.Weighted.{firstAbove, chosen, weightWhere}
+use Rattle.sorted.specs.Sorted.{firstAbove}
+use Rattle.draws.specs.Weighted.{chosen, weightWhere}
 use Rattle.draws.specs.Fairness.{BelowFair, FractionFair, WeightedFair}
 use Rattle.draws.proofs.BelowLaws.{low-counts, high-skipped}
 

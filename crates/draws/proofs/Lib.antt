@@ -2,7 +2,6 @@ pub mod BelowLaws
 pub mod FractionLaws
 pub mod SumLaws
 pub mod WeightedLaws
-pub mod SearchLaws
 pub mod ShuffleLaws
 pub mod Fairness
 pub mod ShuffleFairness

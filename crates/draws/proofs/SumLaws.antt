@@ -1,13 +1,16 @@
 -- Laws of running sums that are written to the front of a buffer.
-use Prim.Native.Nat.{ℕ, _+_, _≤_, _<_}
-use mathlib.Core.Path.{_≡_, _∙_}
+use Prim.Native.Nat.{ℕ, _+_, _%_, _^_, _≤_, _<_}
+use mathlib.Core.Path.{_≡_, ap, _∙_}
 use mathlib.Core.List.{List, _++_}
 use native.Mathlib.Numerals.{add-one}
 use native.Mathlib.Omega.{arith}
+use lib.Dec.{ltb}
 use lib.ListN.{length, getD, set, take, drop, length-set}
 use lib.Seq.{take-all}
+use mir.Val.{boolByte}
 use Rattle.laws.specs.Sums.{total, runningSums}
 use Rattle.laws.proofs.Sums.{total-take-suc, length-running, running-at}
+use Rattle.laws.proofs.Carries.{Carried, carried-next, carried-exact}
 use Rattle.laws.proofs.Buffers.{store-next}
 
 -- the first i running sums stand before what a buffer held
@@ -39,4 +42,23 @@ whole ws held sums sum i l s =
     record {
       is = s .is ∙ rw (e, take-all (length ws) ws (omega arith));
       holds = s .holds ∙ rw (e, take-all (length ws) (runningSums ws) (omega (arith, length-running 0 ws)));
+    }
+
+-- the same with carries counted: the sums are the running sums as long as there is none
+pub record Counting (ws held sums : List ℕ) (sum carries i : ℕ) : Type 0 where
+  pub carried : Carried ws sum carries i
+  pub long : length sums ≡ length held
+  pub summing : carries ≡ 0 → Summing ws held sums sum i
+
+pub counting-next : {ws held sums : List ℕ} {sum carries i : ℕ} → i < length ws → length ws ≤ length held → getD ws i 0 < 2 ^ 64 → (s : ℕ) → s ≡ (sum + getD ws i 0) % 2 ^ 64 →
+    Counting ws held sums sum carries i → Counting ws held (set sums i s) s (carries + boolByte (ltb s (getD ws i 0))) (i + 1)
+counting-next {ws} {held} {sums} {sum} {carries} {i} l r g s e c =
+    let next = carried-next (c .carried) l g s e in
+    record {
+      carried = next;
+      long = simp length-set (c .long);
+      summing = λ none.
+          let before : carries ≡ 0 = omega arith in
+          let exact : s ≡ sum + getD ws i 0 = omega (arith, carried-exact next none, carried-exact (c .carried) before, ap (λ (n : ℕ). total (take n ws)) (add-one i), total-take-suc ws i l) in
+          rw exact (summing-next ws held sums sum i l r (c .summing before));
     }

@@ -12,12 +12,13 @@ use Rattle.laws.specs.Sums.{total, runningFrom, runningSums}
 use Rattle.laws.proofs.Sums.{total-append, total-take-suc, total-take-mono, length-running, running-at, running-rises}
 use Rattle.refusals.specs.declared.Summed.{Summed}
 use Rattle.refusals.specs.declared.Summed.the-variants.{Sum}
-use Rattle.words.specs.Outcome.{accepted}
+use Rattle.words.specs.Outcome.{refused, accepted}
 use Rattle.words.proofs.Outcomes.{Went, went, NoLonger, accepted-no-longer, next-no-longer}
 use Rattle.draws.specs.declared.weighted.Place.{Place}
 use Rattle.draws.specs.Below.{below}
 use Rattle.draws.specs.Answers.{SumsHeld}
-use Rattle.draws.specs.Weighted.{firstAbove, chosen, remainder, placeOf, weighted, Rising, Placed}
+use Rattle.sorted.specs.Sorted.{firstAbove, Sorted}
+use Rattle.draws.specs.Weighted.{chosen, remainder, placeOf, weighted, Placed}
 use Rattle.draws.proofs.BelowLaws.{drawn-lt, below-no-longer}
 
 -- r is the smallest place whose number exceeds v: no number before it does, and the number there does, if there is one
@@ -28,8 +29,8 @@ first-above-is (x ∷ xs) v (suc r) w b h =
     rw (le-ltb v x (b 0 (omega arith)))
     (ap suc (first-above-is xs v r (omega arith) (λ k l. b (suc k) (omega arith)) (λ l. h (omega arith))))
 
-pub running-rising : (weights : List ℕ) → Rising (runningSums weights)
-running-rising weights i j h l = running-rises 0 weights i j h (omega (arith, length-running 0 weights))
+pub running-sorted : (weights : List ℕ) → Sorted (runningSums weights)
+running-sorted weights i j h l = running-rises 0 weights i j h (omega (arith, length-running 0 weights))
 
 -- what the place of a value below the sum is
 pub record Chosen (before : ℕ) (weights : List ℕ) (v at : ℕ) : Type 0 where
@@ -146,6 +147,10 @@ found weights sums v at e h f = rw (e, f, e) (record {
     c : Chosen 0 weights v (chosen weights v)
     c = chosen-is weights v h
 
+-- running sums can be searched for a value below the sum
+pub searchable : (weights sums : List ℕ) (v : ℕ) → sums ≡ runningSums weights → v < total weights → Sorted sums × (firstAbove sums v < length sums)
+searchable weights sums v e h = rw e (running-sorted weights, omega (arith, chosen-is weights v h .within, length-running 0 weights))
+
 -- the last running sum is the sum
 pub last-sum : (weights : List ℕ) → 0 < total weights → getD (runningSums weights) (length weights - 1) 0 ≡ total weights
 last-sum [] h = absurd (omega arith)
@@ -157,6 +162,24 @@ last-sum (x ∷ xs) h =
 pub some-weight : (weights : List ℕ) → 0 < total weights → 0 < length weights
 some-weight [] h = absurd (omega arith)
 some-weight (x ∷ xs) h = omega arith
+
+-- so there is a running sum, and the last one is the sum of the weights
+pub record Last (weights sums : List ℕ) : Type 0 where
+  pub some : 0 < length sums
+  pub is : getD sums (length sums - 1) 0 ≡ total weights
+
+pub last : (weights sums : List ℕ) → sums ≡ runningSums weights → 0 < total weights → Last weights sums
+last weights sums e h = rw e (record {
+  some = omega (arith, length-running 0 weights, some-weight weights h);
+  is = rw (length-running 0 weights) (last-sum weights h);
+})
+
+-- a weighted draw, by what the draw below the sum gave
+pub by-value : (weights ws : List ℕ) (v : ℕ) (left : List ℕ) → accepted v left ≡ below (total weights) ws → accepted (placeOf weights v) left ≡ weighted weights ws
+by-value weights ws v left e = rw (← e)
+
+pub by-none : (weights ws : List ℕ) (n : ℕ) → refused n ≡ below (total weights) ws → refused n ≡ weighted weights ws
+by-none weights ws n e = rw (← e)
 
 -- what an accepted weighted draw gives
 pub placed : (weights ws : List ℕ) {p : Place} {left : List ℕ} → 0 < total weights → weighted weights ws ≡ accepted p left → Placed weights p

@@ -1,24 +1,13 @@
 -- "Weighted draw".
-use Prim.Native.Nat.{ℕ, suc, _+_, _-_, _≤_, _<_}
+use Prim.Native.Nat.{ℕ, suc, _+_, _-_, _<_}
 use mathlib.Core.Bool.{Bool, cond}
 use mathlib.Core.List.{List, [], _∷_, map}
-use lib.Dec.{ltb}
 use lib.ListN.{length, getD, take}
 use Rattle.laws.specs.Sums.{total, runningSums}
+use Rattle.sorted.specs.Sorted.{firstAbove}
 use Rattle.words.specs.Outcome.{Outcome, accepted, next}
 use Rattle.draws.specs.declared.weighted.Place.{Place}
 use Rattle.draws.specs.Below.{below}
-
--- the smallest place whose number exceeds v; the length where none does
-abbrev pub firstAbove : List ℕ → ℕ → ℕ
-firstAbove [] v = 0
-firstAbove (x ∷ xs) v = cond (ltb v x) 0 (suc (firstAbove xs v))
-
--- that place is from low to low + size
-pub record FirstAboveIn (xs : List ℕ) (v low size : ℕ) : Type 0 where
-  pub from : low ≤ firstAbove xs v
-  pub to : firstAbove xs v ≤ low + size
-  pub within : low + size ≤ length xs
 
 -- "the smallest place whose running sum exceeds v"
 abbrev pub chosen : List ℕ → ℕ → ℕ
@@ -49,10 +38,6 @@ pub record Placed (weights : List ℕ) (p : Place) : Type 0 where
 abbrev pub AllPlaced : List ℕ → List Place → Type 0
 AllPlaced weights [] = Unit {0}
 AllPlaced weights (p ∷ ps) = Placed weights p × AllPlaced weights ps
-
--- the numbers of a list never fall
-abbrev pub Rising : List ℕ → Type 0
-Rising xs = (i j : ℕ) → i ≤ j → j < length xs → getD xs i 0 ≤ getD xs j 0
 
 -- the sum of the weights whose places pass a test
 abbrev pub weightWhere : List ℕ → (ℕ → Bool) → ℕ

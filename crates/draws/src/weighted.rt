@@ -5,16 +5,14 @@ use refusals::Summed;
 use words::Words;
 ghost use Prim.Native.Nat.{_^_, _≤_, _<_};
 ghost use mathlib.Core.Path.{_≡_};
-ghost use mathlib.Core.Bool.{cond};
 ghost use mathlib.Core.List.{[], _∷_, _++_};
-ghost use lib.Dec.{ltb};
 ghost use lib.ListN.{length, drop};
 ghost use Rattle.laws.specs.Sums.{total, runningSums};
 ghost use Rattle.refusals.specs.Refusals.{lowest, sumPast, totalZero};
 ghost use Rattle.refusals.specs.Answers.{summedBy};
 ghost use Rattle.words.specs.Outcome.{leftAfter};
 ghost use Rattle.words.specs.Stream.{stream};
-ghost use Rattle.draws.specs.Weighted.{Rising, firstAbove, FirstAboveIn, placeOf, weighted};
+ghost use Rattle.draws.specs.Weighted.{placeOf, weighted};
 ghost use Rattle.draws.specs.Answers.{SumsHeld, weightedSays};
 
 // A place among weights, and the value that was drawn less the running sum before it.
@@ -44,72 +42,30 @@ pub fn running_sums(weights: &[u64], sums: &mut [u64])
     }
 }
 
-// The same for weights of any sum, in one pass: the sum, or 8 or 9. What sums then holds is only said where there is a sum.
+// The same for weights of any sum, in one pass: the sum, or 8 or 9. What sums then holds is only said where there is a sum. Carries are counted
+// as in `Stake::sum`.
 pub fn checked_sums(weights: &[u64], sums: &mut [u64]) -> Summed
     requires { ⌜ length (now weights) ≤ length (now sums) ⌝ }
     ensures { λ r. ⌜ r ≡ summedBy (lowest (sumPast (now (weights .entry)) ∷ totalZero (now (weights .entry)) ∷ [])) (total (now (weights .entry))) ⌝ }
     ensures { λ r. ⌜ SumsHeld r (now (weights .entry)) (now (sums .entry)) (now (sums .exit)) ⌝ }
 {
     let mut sum: u64 = 0;
+    let mut carries: u64 = 0;
     let mut i = 0;
     while i < weights.len() {
         let weight = weights[i];
-        if 0xffff_ffff_ffff_ffff - sum < weight {
-            return Summed::Refused(refusals::SUM_PAST);
-        }
-        sum += weight;
+        sum = std::num::wrapping_add_u64(sum, weight);
+        carries += (sum < weight) as u64;
         sums[i] = sum;
         i += 1;
+    }
+    if carries != 0 {
+        return Summed::Refused(refusals::SUM_PAST);
     }
     if sum == 0 {
         return Summed::Refused(refusals::TOTAL_ZERO);
     }
     Summed::Sum(sum)
-}
-
-// 1 where at comes before the smallest place of a rising list whose number exceeds v, else 0: a number to add, since no
-// processor could predict a branch on it.
-fn precedes(sums: &[u64], v: u64, at: usize) -> usize
-    requires { ⌜ Rising (now sums) ⌝ }
-    requires { ⌜ at < length (now sums) ⌝ }
-    ensures { λ r. ⌜ r ≡ cond (ltb at (firstAbove (now (sums .entry)) v)) 1 0 ⌝ }
-{
-    (sums[at] <= v) as usize
-}
-
-// The smallest place of a rising list whose number exceeds v, where it is from low to low + size: each number there is
-// looked at.
-fn first_above_in(sums: &[u64], v: u64, low: usize, size: usize) -> usize
-    requires { ⌜ Rising (now sums) ⌝ }
-    requires { ⌜ FirstAboveIn (now sums) v low size ⌝ }
-    ensures { λ r. ⌜ r ≡ firstAbove (now (sums .entry)) v ⌝ }
-{
-    let mut at = low;
-    let mut left = size;
-    while 0 < left {
-        at += precedes(sums, v, at);
-        left -= 1;
-    }
-    at
-}
-
-// The smallest place of a rising list whose number exceeds v, or the list's length: each step of the search leaves about a
-// quarter of the places.
-pub fn first_above(sums: &[u64], v: u64) -> usize
-    requires { ⌜ Rising (now sums) ⌝ }
-    ensures { λ r. ⌜ r ≡ firstAbove (now (sums .entry)) v ⌝ }
-{
-    let mut low = 0;
-    let mut size = sums.len();
-    while 3 < size {
-        let quarter = size / 4;
-        let first = precedes(sums, v, low + quarter - 1);
-        let second = precedes(sums, v, low + 2 * quarter - 1);
-        let third = precedes(sums, v, low + 3 * quarter - 1);
-        low += quarter * (first + second + third);
-        size -= 3 * quarter;
-    }
-    first_above_in(sums, v, low, size)
 }
 
 // The place that the value v chooses among weights, whose running sums are given.
@@ -118,7 +74,7 @@ pub fn place_of(weights: &[u64], sums: &[u64], v: u64) -> Place
     requires { ⌜ v < total (now weights) ⌝ }
     ensures { λ r. ⌜ r ≡ placeOf (now (weights .entry)) v ⌝ }
 {
-    let at = first_above(sums, v);
+    let at = sorted::first_above(sums, v);
     Place {
         at,
         remainder: v - (sums[at] - weights[at]),

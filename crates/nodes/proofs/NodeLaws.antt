@@ -11,7 +11,7 @@ use Rattle.laws.proofs.Sums.{total-take-suc, total-take-mono, length-running, r
 use Rattle.laws.proofs.Buffers.{Stored, stored-none, stored-next, stored-ahead, stored-all, stored-whole}
 use Rattle.draws.specs.Weighted.{chosen}
 use Rattle.draws.proofs.WeightedLaws.{Chosen, chosen-at, first-above-is}
-use Rattle.draws.proofs.SearchLaws.{first-above-le}
+use Rattle.sorted.proofs.SearchLaws.{first-above-le}
 use Rattle.nodes.specs.declared.node.Field.{Field}
 use Rattle.nodes.specs.Node.{fieldOf}
 

@@ -5,7 +5,6 @@
 use draws::below;
 use draws::below::Below;
 use draws::weighted;
-use draws::weighted::Weighted;
 use refusals::Refusal;
 use refusals::Summed;
 use types::ValidatorIndex;
@@ -151,7 +150,7 @@ fn size_refusal(n: usize, k: usize, room: usize) -> Refusal
     Refusal::None
 }
 
-// Fills seats by weighted draws from weights, whose running sums are given.
+// Fills seats by weighted draws from weights, whose running sums are given: the places alone, without what is left of each value.
 pub fn draw_seats(
     list: &[u64],
     words: &mut Words,
@@ -163,14 +162,15 @@ pub fn draw_seats(
     requires { ⌜ 0 < total (now weights) ⌝ }
     ensures { λ r. ⌜ seatsSays r (now (seats .exit)) (stream (now (list .entry)) (now (words .exit))) ≡ iidSeats (length (now (seats .entry))) (now (weights .entry)) (stream (now (list .entry)) (now (words .entry))) ⌝ }
 {
+    let sum = sums[sums.len() - 1];
     let mut i = 0;
     while i < seats.len() {
-        match weighted::draw_weighted(list, words, weights, sums) {
-            Weighted::At(place) => {
-                seats[i] = place.at as u64;
+        match below::draw_below(list, words, sum) {
+            Below::Value(v) => {
+                seats[i] = sorted::first_above(sums, v) as u64;
                 i += 1;
             }
-            Weighted::NoWord => {
+            Below::NoWord => {
                 return Seats::NoWord;
             }
         }

@@ -1,17 +1,11 @@
 -- The laws of checked arithmetic.
 use Prim.Native.Nat.{ℕ, _+_, _-_, _*_, _/_, _%_, _^_, _≤_, _<_}
-use mathlib.Core.Path.{_≡_, refl, ap, _∙_}
+use mathlib.Core.Path.{_≡_, refl, ap}
 use mathlib.Core.Bool.{Bool, true, false}
-use mathlib.Core.List.{List}
-use native.Mathlib.Numerals.{add-one}
 use native.Mathlib.Nat.{le-div-iff-mul-le, div-lt-iff-lt-mul, div-add-mod', div-eq-of-lt-le, mod-lt, le-mul-of-pos-right, one-le-pow}
 use native.Mathlib.Omega.{arith}
 use lib.Dec.{ltb}
-use lib.ListN.{length, getD, take}
-use lib.Seq.{take-all}
 use borrow.Author.Tests.{lt-ltb, le-ltb, ltb-true, ltb-false}
-use Rattle.laws.specs.Sums.{total}
-use Rattle.laws.proofs.Sums.{total-take-suc, total-take-le}
 use Rattle.types.specs.declared.stake.CheckedStake.the-variants.{Some, None}
 use Rattle.types.specs.declared.stake.Stake.{Stake}
 use Rattle.types.specs.Stake.{checked}
@@ -57,25 +51,3 @@ ceil-uneven a d p e = div-eq-of-lt-le d (omega (arith, div-add-mod' a d)) (omega
 -- and then it is at most what was divided
 pub ceil-small : (a d : ℕ) → 0 < d → (a % d ≡ 0 → ⊥) → a / d + 1 ≤ a
 ceil-small a d p e = omega (arith, div-add-mod' a d, le-mul-of-pos-right (a / d) p)
-
--- a sum in the making: the first i numbers are added
-pub record Summed (xs : List ℕ) (sum : Stake) (i : ℕ) : Type 0 where
-  pub within : i ≤ length xs
-  pub sofar : sum .0 ≡ total (take i xs)
-  pub small : sum .0 < 2 ^ 64
-
-module _ {xs : List ℕ} {sum : Stake} {i : ℕ} (s : Summed xs sum i) where
-  sum-next : i < length xs → sum .0 + getD xs i 0 ≡ total (take (i + 1) xs)
-  sum-next h = rw add-one (omega (arith, total-take-suc xs i h))
-
-  pub sum-step : {next : Stake} → i < length xs → checked (sum .0 + getD xs i 0) ≡ Some next → Summed xs next (i + 1)
-  sum-step {next} h e =
-      let f = of-some (sum .0 + getD xs i 0) next e in
-      record { within = omega arith; sofar = f .0 ∙ sum-next h; small = omega arith }
-
-  pub sum-over : i < length xs → checked (sum .0 + getD xs i 0) ≡ None → checked (total xs) ≡ None
-  sum-over h e =
-      checked-none (total xs) (omega (arith, of-none (sum .0 + getD xs i 0) e, sum-next h, total-take-le xs (i + 1)))
-
-  pub sum-end : length xs ≤ i → checked (total xs) ≡ Some sum
-  sum-end h = rw (← ap total (take-all i xs h), ← s .sofar) (checked-some (sum .0) (s .small))

@@ -1,12 +1,9 @@
 -- `draws::weighted::draw_weighted` meets its contract: the last running sum is the sum that the value is drawn below.
-use Prim.Native.Nat.{ℕ, _-_, _<_}
+use Prim.Native.Nat.{ℕ}
 use mathlib.Core.Path.{_≡_, refl, sym, ap, _∙_}
-use mathlib.Core.List.{List}
 use native.Mathlib.Omega.{arith}
 use denote.Ref.{now}
-use lib.ListN.{length, getD}
-use Rattle.laws.specs.Sums.{total, runningSums}
-use Rattle.laws.proofs.Sums.{length-running}
+use Rattle.laws.specs.Sums.{total}
 use Rattle.words.specs.Stream.{stream}
 use Rattle.refusals.specs.Refusals.{noWordLeft}
 use Rattle.words.proofs.Outcomes.{none-left}
@@ -14,17 +11,10 @@ use Rattle.draws.specs.declared.below.Below.{Below}
 use Rattle.draws.specs.Below.{below}
 use Rattle.draws.specs.Answers.{belowSays}
 use Rattle.draws.proofs.BelowLaws.{drawn-lt}
-use Rattle.draws.proofs.WeightedLaws.{last-sum, some-weight}
+use Rattle.draws.proofs.WeightedLaws.{last}
 use borrow.Author.Needs.{needs}
 use Rattle.draws.proofs.weighted.draw_weighted.Statement.{statement}
 use Rattle.draws.proofs.weighted.draw_weighted.Tie as tie
-
--- there is a running sum, and the last one is the sum of the weights
-long : (weights sums : List ℕ) → sums ≡ runningSums weights → 0 < total weights → 0 < length sums
-long weights sums e h = rw e (omega (arith, length-running 0 weights, some-weight weights h))
-
-last : (weights sums : List ℕ) → sums ≡ runningSums weights → 0 < total weights → getD sums (length sums - 1) 0 ≡ total weights
-last weights sums e h = rw (e, length-running 0 weights) (last-sum weights h)
 
 -- what the draw below the sum said
 drawn : (c : tie.After-draw-below) →
@@ -34,11 +24,11 @@ drawn : (c : tie.After-draw-below) →
 drawn c =
     let s = c .before .before .before .before .before .before in
     let a = s .args in
-    ap (λ (m : ℕ). below m (stream (now (a .list)) (now (a .words)))) (sym (last (now (a .weights)) (now (a .sums)) (s .pre .0) (s .pre .1)))
+    ap (λ (m : ℕ). below m (stream (now (a .list)) (now (a .words)))) (sym (last (now (a .weights)) (now (a .sums)) (s .pre .0) (s .pre .1) .is))
     ∙ sym (c .draw-below .ensures .0)
 
 sub-sum : tie.Need-sub-sum
-sub-sum c = let s = c .before .before .before in long (now (s .args .weights)) (now (s .args .sums)) (s .pre .0) (s .pre .1)
+sub-sum c = let s = c .before .before .before in last (now (s .args .weights)) (now (s .args .sums)) (s .pre .0) (s .pre .1) .some
 
 mul-sum : tie.Need-mul-sum
 mul-sum c = search needs
@@ -46,12 +36,12 @@ mul-sum c = search needs
 shared-slice-read-sum : tie.Need-shared-slice-read-sum
 shared-slice-read-sum c =
     let s = c .before .before .before .before in
-    omega (arith, long (now (s .args .weights)) (now (s .args .sums)) (s .pre .0) (s .pre .1))
+    omega (arith, last (now (s .args .weights)) (now (s .args .sums)) (s .pre .0) (s .pre .1) .some)
 
 draw-below-requires : tie.Need-draw-below-requires
 draw-below-requires c κs =
     let s = c .before .before .before .before .before in
-    rw (last (now (s .args .weights)) (now (s .args .sums)) (s .pre .0) (s .pre .1)) (s .pre .1)
+    rw (last (now (s .args .weights)) (now (s .args .sums)) (s .pre .0) (s .pre .1) .is) (s .pre .1)
 
 enum-known-v : tie.Need-enum-known-v
 enum-known-v c = search needs

@@ -1,7 +1,7 @@
 -- `draws::weighted::place_of` meets its contract.
 use native.Mathlib.Omega.{arith}
 use denote.Ref.{now}
-use Rattle.draws.proofs.WeightedLaws.{Found, found, running-rising}
+use Rattle.draws.proofs.WeightedLaws.{Found, found, searchable}
 use Rattle.draws.proofs.weighted.place_of.Statement.{statement}
 use Rattle.draws.proofs.weighted.place_of.Tie as tie
 
@@ -14,7 +14,7 @@ place c =
     found (now (s .args .weights)) (now (s .args .sums)) (s .args .v) (c .first-above .result) (s .pre .0) (s .pre .1) (c .first-above .ensures)
 
 first-above-requires : tie.Need-first-above-requires
-first-above-requires c κs = let s = c .before .before in rw (s .pre .0) (running-rising (now (s .args .weights)))
+first-above-requires c κs = let s = c .before .before in searchable (now (s .args .weights)) (now (s .args .sums)) (s .args .v) (s .pre .0) (s .pre .1)
 
 mul-t5 : tie.Need-mul-t5
 mul-t5 c = omega (arith, place c .among-sums)

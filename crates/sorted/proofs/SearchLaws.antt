@@ -1,4 +1,4 @@
--- Laws of the search for the smallest place of a rising list whose number exceeds v.
+-- Laws of the search for the smallest place of a sorted list whose number exceeds v.
 use Prim.Native.Nat.{ℕ, zero, suc, _+_, _*_, _≤_, _<_, min}
 use mathlib.Core.Path.{_≡_, refl}
 use mathlib.Core.Bool.{Bool, true, false, cond}
@@ -7,14 +7,14 @@ use native.Mathlib.Omega.{arith}
 use lib.Dec.{ltb}
 use lib.ListN.{length, getD}
 use borrow.Author.Tests.{ltb-true, ltb-false, lt-ltb, le-ltb}
-use Rattle.draws.specs.Weighted.{Rising, firstAbove}
+use Rattle.sorted.specs.Sorted.{Sorted, firstAbove}
 
 one-more : (t : Bool) {m n : ℕ} → m ≤ n → cond t 0 (suc m) ≤ suc n
 one-more true h = omega arith
 one-more false h = omega arith
 
--- a number of a rising list that is at most v stands before that place
-pub before-above : (xs : List ℕ) (v i : ℕ) → Rising xs → i < length xs → getD xs i 0 ≤ v → i < firstAbove xs v
+-- a number of a sorted list that is at most v stands before that place
+pub before-above : (xs : List ℕ) (v i : ℕ) → Sorted xs → i < length xs → getD xs i 0 ≤ v → i < firstAbove xs v
 before-above [] v i r l h = absurd (omega arith)
 before-above (x ∷ xs) v zero r l h = rw (le-ltb v x h) (omega arith)
 before-above (x ∷ xs) v (suc i) r l h =

@@ -1,4 +1,4 @@
--- `draws::weighted::precedes` meets its contract: the places before the one searched for are those whose numbers are at most v.
+-- `sorted::precedes` meets its contract: the places before the one searched for are those whose numbers are at most v.
 use Prim.Native.Nat.{ℕ, _<_}
 use mathlib.Core.Path.{_≡_, refl}
 use mathlib.Core.Bool.{Bool, true, false, cond}
@@ -8,13 +8,13 @@ use lib.ListN.{length, getD}
 use mir.Val.{boolByte}
 use denote.Ref.{now}
 use borrow.Author.Tests.{leb-true, leb-false, lt-ltb, le-ltb}
-use Rattle.draws.specs.Weighted.{Rising, firstAbove}
-use Rattle.draws.proofs.SearchLaws.{before-above, above-from}
+use Rattle.sorted.specs.Sorted.{Sorted, firstAbove}
+use Rattle.sorted.proofs.SearchLaws.{before-above, above-from}
 use borrow.Author.Needs.{needs}
-use Rattle.draws.proofs.weighted.precedes.Statement.{statement}
-use Rattle.draws.proofs.weighted.precedes.Tie as tie
+use Rattle.sorted.proofs.precedes.Statement.{statement}
+use Rattle.sorted.proofs.precedes.Tie as tie
 
-told : (xs : List ℕ) (v at : ℕ) → Rising xs → at < length xs → boolByte (leb (getD xs at 0) v) ≡ cond (ltb at (firstAbove xs v)) 1 0
+told : (xs : List ℕ) (v at : ℕ) → Sorted xs → at < length xs → boolByte (leb (getD xs at 0) v) ≡ cond (ltb at (firstAbove xs v)) 1 0
 told xs v at r l = go (leb (getD xs at 0) v) refl
   where
     go : (t : Bool) → leb (getD xs at 0) v ≡ t → boolByte t ≡ cond (ltb at (firstAbove xs v)) 1 0
