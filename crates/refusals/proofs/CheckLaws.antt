@@ -9,7 +9,7 @@ use native.Mathlib.Omega.{arith}
 use lib.Dec.{eqb, ltb}
 use lib.ListN.{length, getD, take}
 use lib.Seq.{length-take-le, getD-take, take-suc}
-use borrow.Author.Tests.{ltb-true, ltb-false, leb-false, lt-ltb, le-ltb, le-leb, lt-leb, ne-eqb}
+use borrow.Author.Tests.{ltb-false, leb-false, lt-ltb, le-ltb, le-leb, lt-leb, ne-eqb}
 use Rattle.laws.specs.Sums.{total}
 use Rattle.refusals.specs.declared.Refusal.{Refusal}
 use Rattle.refusals.specs.declared.Refusal.the-variants.{None, Number}
@@ -43,10 +43,17 @@ after-number (c ∷ cs) ds n e = go (c .applies) e (after-number cs ds n)
     go true e ih = e
     go false e ih = ih e
 
--- where none applies, the last does not
+-- where none of two lists applies, none of either does
+pub both-passed : (cs ds : List Check) → lowest (cs ++ ds) ≡ None → (lowest cs ≡ None) × (lowest ds ≡ None)
+both-passed [] ds e = (refl, e)
+both-passed (c ∷ cs) ds e =
+    let p = passed c (cs ++ ds) e in
+    let q = both-passed cs ds (p .rest) in
+    (rw (p .head) (q .0), q .1)
+
+-- nor does the last
 pub last-passed : (cs : List Check) (d : Check) → lowest (cs ++ (d ∷ [])) ≡ None → d .applies ≡ false
-last-passed [] d e = passed d [] e .head
-last-passed (c ∷ cs) d e = last-passed cs d (passed c (cs ++ (d ∷ [])) e .rest)
+last-passed cs d e = passed d [] (both-passed cs (d ∷ []) e .1) .head
 
 -- every number of these checks is above 0
 abbrev pub Numbered : List Check → Type 0
@@ -109,44 +116,34 @@ pub counts-low : (counts : List ℕ) (n k : ℕ) → n ≤ length counts → k �
 counts-low counts n k h l e i m =
     omega (arith, none-above (4294967295 - k) (take n counts) e i (omega (arith, length-take-le n counts h)), getD-take n counts i 0 m)
 
--- one of the first numbers exceeds the limit exactly where the highest of them does
+-- whether one of the numbers exceeds the limit, with one number more
+or-false : (b : Bool) → (b || false) ≡ b
+or-false true = refl
+or-false false = refl
+
+or-true : (b : Bool) → (b || true) ≡ true
+or-true true = refl
+or-true false = refl
+
 any-snoc : (limit : ℕ) (xs : List ℕ) (x : ℕ) → anyAbove limit (xs ++ (x ∷ [])) ≡ (anyAbove limit xs || ltb limit x)
-any-snoc limit [] x = go (ltb limit x)
-  where
-    go : (b : Bool) → (b || false) ≡ b
-    go true = refl
-    go false = refl
+any-snoc limit [] x = or-false (ltb limit x)
 any-snoc limit (y ∷ ys) x = rw (any-snoc limit ys x) (go (ltb limit y))
   where
     go : (b : Bool) → (b || (anyAbove limit ys || ltb limit x)) ≡ ((b || anyAbove limit ys) || ltb limit x)
     go true = refl
     go false = refl
 
-pub record Highest (xs : List ℕ) (limit highest i : ℕ) : Type 0 where
-  pub same : ltb limit highest ≡ anyAbove limit (take i xs)
-
--- the higher of two exceeds the limit where one of them does
-higher : (limit a b c : ℕ) → ((a < b) × (c ≡ b)) ⊎ ((b ≤ a) × (c ≡ a)) → ltb limit c ≡ (ltb limit a || ltb limit b)
-higher limit a b c (inl (l, e)) = rw e (go (ltb limit a) refl)
+pub any-next : (xs : List ℕ) (limit : ℕ) (over next : Bool) (i : ℕ) → i < length xs → over ≡ anyAbove limit (take i xs) →
+    ((limit < getD xs i 0) × (next ≡ true)) ⊎ ((getD xs i 0 ≤ limit) × (next ≡ over)) → next ≡ anyAbove limit (take (i + 1) xs)
+any-next xs limit over next i l h d =
+    came d
+    ∙ ap (λ (b : Bool). b || ltb limit (getD xs i 0)) h
+    ∙ sym (any-snoc limit (take i xs) (getD xs i 0))
+    ∙ ap (anyAbove limit) (sym (take-suc xs i 0 l) ∙ ap (λ (j : ℕ). take j xs) (sym (add-one i)))
   where
-    go : (t : Bool) → ltb limit a ≡ t → ltb limit b ≡ (t || ltb limit b)
-    go true q = lt-ltb limit b (omega (arith, l, ltb-true limit a q))
-    go false q = refl
-higher limit a b c (inr (l, e)) = rw e (go (ltb limit a) refl)
-  where
-    go : (t : Bool) → ltb limit a ≡ t → t ≡ (t || ltb limit b)
-    go true q = refl
-    go false q = sym (le-ltb limit b (omega (arith, l, ltb-false limit a q)))
-
-pub highest-next : (xs : List ℕ) (limit highest next i : ℕ) → i < length xs → Highest xs limit highest i →
-    ((highest < getD xs i 0) × (next ≡ getD xs i 0)) ⊎ ((getD xs i 0 ≤ highest) × (next ≡ highest)) → Highest xs limit next (i + 1)
-highest-next xs limit highest next i l h d = record {
-  same =
-      higher limit highest (getD xs i 0) next d
-      ∙ ap (λ (b : Bool). b || ltb limit (getD xs i 0)) (h .same)
-      ∙ sym (any-snoc limit (take i xs) (getD xs i 0))
-      ∙ ap (anyAbove limit) (sym (take-suc xs i 0 l) ∙ ap (λ (j : ℕ). take j xs) (sym (add-one i)));
-}
+    came : ((limit < getD xs i 0) × (next ≡ true)) ⊎ ((getD xs i 0 ≤ limit) × (next ≡ over)) → next ≡ (over || ltb limit (getD xs i 0))
+    came (inl (m, e)) = rw (e, lt-ltb limit (getD xs i 0) m) (sym (or-true over))
+    came (inr (m, e)) = rw (e, le-ltb limit (getD xs i 0) m) (sym (or-false over))
 
 -- the sum: past 2^64 − 1, zero, or neither
 abbrev pub sumRefusal : List ℕ → Refusal

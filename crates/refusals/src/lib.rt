@@ -137,16 +137,15 @@ pub fn bad_counts(counts: &[u32], n: usize, k: usize) -> bool
     ensures { λ r. ⌜ r ≡ countLimit (now (counts .entry)) n k .applies ⌝ }
 {
     let limit = (4_294_967_295 - k) as u32;
-    let mut highest = 0;
+    let mut over = false;
     let mut i = 0;
     while i < n {
-        let count = counts[i];
-        if highest < count {
-            highest = count;
+        if limit < counts[i] {
+            over = true;
         }
         i += 1;
     }
-    limit < highest
+    over
 }
 
 // 11, for bins of this capacity that are filled with weights of this sum.
