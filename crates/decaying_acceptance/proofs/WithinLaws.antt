@@ -15,7 +15,7 @@ use Rattle.decaying_seats.specs.Seats.{raised, Committee, committee}
 use Rattle.decaying_acceptance.specs.Calls.{oneChecks, quorumChecks}
 use Rattle.decaying_acceptance.specs.Laws.{SeatWithin, OneWithin, CommitteeWithin, QuorumWithin}
 use Rattle.tries.proofs.TryLaws.{seat-is}
-use Rattle.decaying_acceptance.proofs.CallLaws.{admitted}
+use Rattle.decaying_acceptance.proofs.CallLaws.{call-summed}
 
 seat-within : (allowed : ℕ) (stakes counts : List ℕ) (max : Float) (ws : List ℕ) {s : Seat} {left : List ℕ} → 0 < total stakes →
     seat allowed 0 stakes counts max ws ≡ accepted s left → SeatWithin allowed stakes s
@@ -26,7 +26,7 @@ seat-within allowed stakes counts max ws {s} h e =
 pub one-within : OneWithin
 one-within allowed stakes counts max ws s left e =
     let u = unrefused (lowest (oneChecks allowed stakes counts max)) (seat allowed 0 stakes counts max ws) e in
-    seat-within allowed stakes counts max ws (admitted 1 1 allowed stakes counts max (u .none) .sum .above) (u .is)
+    seat-within allowed stakes counts max ws (call-summed 1 1 allowed stakes counts max (u .none) .above) (u .is)
 
 committee-within : (k allowed : ℕ) (stakes counts : List ℕ) (max : Float) (ws : List ℕ) {c : Committee} {left : List ℕ} → 0 < total stakes →
     committee k allowed stakes counts max ws ≡ accepted c left → CommitteeWithin k allowed stakes c
@@ -52,4 +52,4 @@ committee-within (suc k) allowed stakes counts max ws {c} {left} h e =
 pub quorum-within : QuorumWithin
 quorum-within k room allowed stakes counts max ws c left e =
     let u = unrefused (lowest (quorumChecks k room allowed stakes counts max)) (committee k allowed stakes (take (length stakes) counts) max ws) e in
-    committee-within k allowed stakes (take (length stakes) counts) max ws (admitted k room allowed stakes counts max (u .none) .sum .above) (u .is)
+    committee-within k allowed stakes (take (length stakes) counts) max ws (call-summed k room allowed stakes counts max (u .none) .above) (u .is)

@@ -1,5 +1,5 @@
 // `DecayingAcceptanceSampler`.
-use crate::checks::refusal;
+use crate::checks::size_refusal;
 use crate::one::draw_one;
 use crate::quorum::draw_quorum;
 use decaying_seats::answers::QuorumAnswer;
@@ -61,7 +61,14 @@ impl DecayingAcceptanceSampler {
         ensures { λ r. ⌜ r ≡ sampleAnswer (drop cursor (now (list .entry))) (one (self .«tries_allowed») (now (stakes .entry)) (now (counts .entry)) (self .«max_samples») (drop cursor (now (list .entry)))) ⌝ }
         ensures { λ r. ⌜ now (counts .exit) ≡ countsAfter (one (self .«tries_allowed») (now (stakes .entry)) (now (counts .entry)) (self .«max_samples») (drop cursor (now (list .entry)))) (now (counts .entry)) ⌝ }
     {
-        match refusal(self.max_samples, self.tries_allowed, 1, stakes, counts, 1) {
+        match size_refusal(
+            self.max_samples,
+            self.tries_allowed,
+            1,
+            stakes.len(),
+            counts.len(),
+            1,
+        ) {
             Refusal::None => draw_one(
                 self.max_samples,
                 self.tries_allowed,
@@ -87,12 +94,12 @@ impl DecayingAcceptanceSampler {
         ensures { λ r. ⌜ now (seats .exit) ≡ bufferAfter (quorum (self .k) (length (now (seats .entry))) (self .«tries_allowed») (now (stakes .entry)) (now (counts .entry)) (self .«max_samples») (drop cursor (now (list .entry)))) seatIds (now (seats .entry)) ⌝ }
         ensures { λ r. ⌜ now (counts .exit) ≡ bufferAfter (quorum (self .k) (length (now (seats .entry))) (self .«tries_allowed») (now (stakes .entry)) (now (counts .entry)) (self .«max_samples») (drop cursor (now (list .entry)))) (zeros (now (stakes .entry))) (now (counts .entry)) ⌝ }
     {
-        match refusal(
+        match size_refusal(
             self.max_samples,
             self.tries_allowed,
             self.k,
-            stakes,
-            counts,
+            stakes.len(),
+            counts.len(),
             seats.len(),
         ) {
             Refusal::None => draw_quorum(

@@ -1,5 +1,6 @@
 -- `decaying_acceptance::one::draw_one` meets its contract: each scratch array for the running sums has a place for each stake.
 use denote.Ref.{now}
+use lib.ListN.{length}
 use Rattle.decaying_acceptance.proofs.CallLaws.{admitted}
 use borrow.Author.Needs.{needs}
 use Rattle.decaying_acceptance.proofs.one.draw_one.Statement.{statement}
@@ -33,27 +34,15 @@ slice-aggregate-one-in-scratch-3 : tie.Need-slice-aggregate-one-in-scratch-3
 slice-aggregate-one-in-scratch-3 c = search needs
 
 one-in-scratch-requires-3 : tie.Need-one-in-scratch-requires-3
-one-in-scratch-requires-3 c κs = search needs
+one-in-scratch-requires-3 c κs =
+    let s = c .before .before .before .before .before .before .before in
+    (s .pre, admitted 1 1 (s .args .tries-allowed) (length (now (s .args .stakes))) (length (now (s .args .counts))) (s .args .max-samples) (s .pre) .list .long)
 
 same-length-3 : tie.Need-same-length-3
 same-length-3 c = search needs
 
 returns-3 : tie.Need-returns-3
 returns-3 c = search needs
-
-slice-aggregate-one-in-scratch-4 : tie.Need-slice-aggregate-one-in-scratch-4
-slice-aggregate-one-in-scratch-4 c = search needs
-
-one-in-scratch-requires-4 : tie.Need-one-in-scratch-requires-4
-one-in-scratch-requires-4 c κs =
-    let s = c .before .before .before .before .before .before .before .before in
-    (s .pre, admitted 1 1 (s .args .tries-allowed) (now (s .args .stakes)) (now (s .args .counts)) (s .args .max-samples) (s .pre) .list .long)
-
-same-length-4 : tie.Need-same-length-4
-same-length-4 c = search needs
-
-returns-4 : tie.Need-returns-4
-returns-4 c = search needs
 
 pub draw-one-spec : {M : Type 1} → statement M
 draw-one-spec =
@@ -70,8 +59,4 @@ draw-one-spec =
     slice-aggregate-one-in-scratch-3
     one-in-scratch-requires-3
     same-length-3
-    returns-3
-    slice-aggregate-one-in-scratch-4
-    one-in-scratch-requires-4
-    same-length-4
-    returns-4)
+    returns-3)

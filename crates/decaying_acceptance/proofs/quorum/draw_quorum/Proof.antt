@@ -10,9 +10,7 @@ slice-aggregate-quorum-by-length : tie.Need-slice-aggregate-quorum-by-length
 slice-aggregate-quorum-by-length c = search needs
 
 quorum-by-length-requires : tie.Need-quorum-by-length-requires
-quorum-by-length-requires c κs =
-    let s = c .before .before .before .before .before .before .before .before in
-    (s .pre, c .before .before .before .if1 .taken)
+quorum-by-length-requires c κs = search needs
 
 same-length : tie.Need-same-length
 same-length c = search needs
@@ -29,7 +27,7 @@ slice-aggregate-quorum-by-length-2 c = search needs
 quorum-by-length-requires-2 : tie.Need-quorum-by-length-requires-2
 quorum-by-length-requires-2 c κs =
     let s = c .before .before .before .before .before .before .before .before in
-    (s .pre, admitted (s .args .k) (length (now (s .args .seats))) (s .args .tries-allowed) (now (s .args .stakes)) (now (s .args .counts)) (s .args .max-samples) (s .pre) .size)
+    (s .pre, admitted (s .args .k) (length (now (s .args .seats))) (s .args .tries-allowed) (length (now (s .args .stakes))) (length (now (s .args .counts))) (s .args .max-samples) (s .pre) .size)
 
 same-length-3 : tie.Need-same-length-3
 same-length-3 c = search needs

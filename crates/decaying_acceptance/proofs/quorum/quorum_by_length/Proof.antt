@@ -62,8 +62,8 @@ slice-aggregate-quorum-in-scratch-6 c = search needs
 
 quorum-in-scratch-requires-3 : tie.Need-quorum-in-scratch-requires-3
 quorum-in-scratch-requires-3 c κs =
-    let s = c .before .before .before .before .before .before .before .before .before .before .before .before .before in
-    let l = c .before .before .before .before .before .if3 .taken in
+    let s = c .before .before .before .before .before .before .before .before .before .before .before .before in
+    let l = admitted (s .args .k) (length (now (s .args .seats))) (s .args .tries-allowed) (length (now (s .args .stakes))) (length (now (s .args .counts))) (s .args .max-samples) (s .pre .0) .list .long in
     (s .pre .0, (l, (l, s .pre .1)))
 
 same-length-7 : tie.Need-same-length-7
@@ -77,30 +77,6 @@ same-length-9 c = search needs
 
 returns-3 : tie.Need-returns-3
 returns-3 c = search needs
-
-slice-aggregate-quorum-in-scratch-7 : tie.Need-slice-aggregate-quorum-in-scratch-7
-slice-aggregate-quorum-in-scratch-7 c = search needs
-
-slice-aggregate-quorum-in-scratch-8 : tie.Need-slice-aggregate-quorum-in-scratch-8
-slice-aggregate-quorum-in-scratch-8 c = search needs
-
-quorum-in-scratch-requires-4 : tie.Need-quorum-in-scratch-requires-4
-quorum-in-scratch-requires-4 c κs =
-    let s = c .before .before .before .before .before .before .before .before .before .before .before .before .before in
-    let l = admitted (s .args .k) (length (now (s .args .seats))) (s .args .tries-allowed) (now (s .args .stakes)) (now (s .args .counts)) (s .args .max-samples) (s .pre .0) .list .long in
-    (s .pre .0, (l, (l, s .pre .1)))
-
-same-length-10 : tie.Need-same-length-10
-same-length-10 c = search needs
-
-same-length-11 : tie.Need-same-length-11
-same-length-11 c = search needs
-
-same-length-12 : tie.Need-same-length-12
-same-length-12 c = search needs
-
-returns-4 : tie.Need-returns-4
-returns-4 c = search needs
 
 pub quorum-by-length-spec : {M : Type 1} → statement M
 quorum-by-length-spec =
@@ -126,11 +102,4 @@ quorum-by-length-spec =
     same-length-7
     same-length-8
     same-length-9
-    returns-3
-    slice-aggregate-quorum-in-scratch-7
-    slice-aggregate-quorum-in-scratch-8
-    quorum-in-scratch-requires-4
-    same-length-10
-    same-length-11
-    same-length-12
-    returns-4)
+    returns-3)

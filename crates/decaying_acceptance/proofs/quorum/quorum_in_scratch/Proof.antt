@@ -1,67 +1,43 @@
--- `decaying_acceptance::quorum::quorum_in_scratch` meets its contract: the running sums stand at the front of one scratch array, and the others have a place for
--- each count and each seat.
-use Prim.Native.Nat.{ℕ}
-use mathlib.Core.Path.{_≡_, sym, ap, _∙_, subst}
-use mathlib.Core.Bool.{false}
-use native.Mathlib.Omega.{arith}
+-- `decaying_acceptance::quorum::quorum_in_scratch` meets its contract: the running sums stand at the front of the scratch array.
+use mathlib.Core.Path.{sym, _∙_}
 use denote.Ref.{now}
-use lib.ListN.{length, take, drop}
-use lib.Seq.{length-take-le}
-use Rattle.refusals.specs.Refusals.{countLimit}
-use Rattle.words.specs.Outcome.{Outcome, bufferAfter}
-use Rattle.draws.proofs.WeightedLaws.{Front, front}
-use Rattle.decaying_seats.specs.Seats.{Committee, committee, seatIds}
-use Rattle.decaying_seats.specs.Answers.{quorumAnswer, zeros}
-use Rattle.decaying_acceptance.proofs.CallLaws.{Admitted, admitted}
+use lib.ListN.{length, drop}
+use Rattle.refusals.proofs.CheckLaws.{sum-got, number-got}
+use Rattle.draws.proofs.WeightedLaws.{Front, summed-front}
+use Rattle.decaying_acceptance.proofs.CallLaws.{sum-refused, quorum-refused}
 use borrow.Author.Needs.{needs}
 use Rattle.decaying_acceptance.proofs.quorum.quorum_in_scratch.Statement.{statement}
 use Rattle.decaying_acceptance.proofs.quorum.quorum_in_scratch.Tie as tie
 
-admitted-here : (c : tie.Start) → Admitted (c .args .k) (length (now (c .args .seats))) (c .args .tries-allowed) (now (c .args .stakes)) (now (c .args .counts))
-admitted-here c = admitted (c .args .k) (length (now (c .args .seats))) (c .args .tries-allowed) (now (c .args .stakes)) (now (c .args .counts)) (c .args .max-samples) (c .pre .0)
-
-abbrev start-of : tie.After-running-sums → tie.Start
+abbrev start-of : tie.After-checked-sums → tie.Start
 start-of c = c .before .before .before .before .before .before .before .before .before
 
-front-here : (c : tie.After-running-sums) → Front (now (start-of c .args .stakes)) (c .running-sums .last .1 .0)
-front-here c = front (now (start-of c .args .stakes)) _ (c .running-sums .last .1 .0) (c .running-sums .ensures)
+-- where there is a sum, the running sums stand at the front of the scratch array
+front-here : (c : tie.After-enum-told) → Front (now (start-of (c .before .before .before .before) .args .stakes)) (c .before .before .before .before .checked-sums .last .1 .0)
+front-here c = summed-front _ (c .enum-told .given .0 .0) _ _ _ (c .enum-told .given .1) (c .before .before .before .before .checked-sums .ensures .1)
 
--- the parts of the scratch arrays have as many places as there are stakes and seats
-raised-long : (c : tie.Start) → length (take (length (now (c .args .stakes))) (now (c .args .raised))) ≡ length (now (c .args .stakes))
-raised-long c = length-take-le (length (now (c .args .stakes))) (now (c .args .raised)) (c .pre .1 .1 .0)
+checked-sums-requires : tie.Need-checked-sums-requires
+checked-sums-requires c κs = search needs
 
-drawn-long : (c : tie.Start) → length (take (c .args .k) (now (c .args .drawn))) ≡ c .args .k
-drawn-long c = length-take-le (c .args .k) (now (c .args .drawn)) (c .pre .1 .1 .1)
+enum-told : tie.Need-enum-told
+enum-told c = search needs
 
-running-sums-requires : tie.Need-running-sums-requires
-running-sums-requires c κs = let s = c .before .before .before .before .before .before .before .before in (s .pre .1 .0, admitted-here s .sum .fits)
+slice-reshare-prefix-quorum-of-sums : tie.Need-slice-reshare-prefix-quorum-of-sums
+slice-reshare-prefix-quorum-of-sums c = search needs
 
-slice-reshare-prefix-fill-quorum : tie.Need-slice-reshare-prefix-fill-quorum
-slice-reshare-prefix-fill-quorum c = search needs
+slice-aggregate-quorum-of-sums : tie.Need-slice-aggregate-quorum-of-sums
+slice-aggregate-quorum-of-sums c = front-here (c .before) .long
 
-slice-aggregate-fill-quorum : tie.Need-slice-aggregate-fill-quorum
-slice-aggregate-fill-quorum c = front-here (c .before .before .before) .long
+quorum-of-sums-requires : tie.Need-quorum-of-sums-requires
+quorum-of-sums-requires c κs =
+    let e = c .before .before .before .before .before in
+    let d = e .before .before .before .before in
+    let p = start-of d .pre in
+    let fine = sum-got _ _ (e .enum-told .given .0 .0) (sym (e .enum-told .given .1) ∙ d .checked-sums .ensures .0) .0 in
+    (p .0, (fine, (front-here e .is, p .1 .1)))
 
-slice-relend-prefix-fill-quorum : tie.Need-slice-relend-prefix-fill-quorum
-slice-relend-prefix-fill-quorum c = search needs
-
-slice-aggregate-fill-quorum-2 : tie.Need-slice-aggregate-fill-quorum-2
-slice-aggregate-fill-quorum-2 c = sym (raised-long (start-of (c .before .before .before .before)))
-
-slice-relend-prefix-fill-quorum-2 : tie.Need-slice-relend-prefix-fill-quorum-2
-slice-relend-prefix-fill-quorum-2 c = search needs
-
-slice-aggregate-fill-quorum-3 : tie.Need-slice-aggregate-fill-quorum-3
-slice-aggregate-fill-quorum-3 c = sym (drawn-long (start-of (c .before .before .before .before .before)))
-
-fill-quorum-requires : tie.Need-fill-quorum-requires
-fill-quorum-requires c κs =
-    let r = c .before .before .before .before .before .before .before in
-    let s = start-of r in
-    let a = admitted-here s in
-    let d = drawn-long s in
-    let limit = subst (λ (k : ℕ). countLimit (now (s .args .counts)) (length (now (s .args .stakes))) k .applies ≡ false) (sym d) (a .limit) in
-    (front-here r .is, (a .sum .above, (raised-long s, (a .held, (limit, (a .tries, (omega (arith, d, a .size), omega (arith, d, a .room))))))))
+enum-known-x : tie.Need-enum-known-x
+enum-known-x c = search needs
 
 same-length : tie.Need-same-length
 same-length c = search needs
@@ -79,35 +55,34 @@ same-length-5 : tie.Need-same-length-5
 same-length-5 c = search needs
 
 returns : tie.Need-returns
-returns c =
-    let f = c .before .before .before .before .before .before .before .before in
-    let s = start-of (f .before .before .before .before .before .before .before .before) in
-    let ws = drop (s .args .cursor) (now (s .args .list)) in
-    let whole : ℕ → Outcome Committee
-    = λ k. committee k (s .args .tries-allowed) (now (s .args .stakes)) (take (length (now (s .args .stakes))) (now (s .args .counts))) (s .args .max-samples) ws in
-    let d = drawn-long s in (
-      f .fill-quorum .ensures .0 ∙ ap (λ (k : ℕ). quorumAnswer ws (whole k)) d,
-      (
-        f .fill-quorum .ensures .1 .0 ∙ ap (λ (k : ℕ). bufferAfter (whole k) seatIds (now (s .args .seats))) d,
-        f .fill-quorum .ensures .1 .1 ∙ ap (λ (k : ℕ). bufferAfter (whole k) (zeros (now (s .args .stakes))) (now (s .args .counts))) d,
-      ),
-    )
+returns c = search needs
+
+same-length-6 : tie.Need-same-length-6
+same-length-6 c = search needs
+
+returns-2 : tie.Need-returns-2
+returns-2 c =
+    let x = c .before .x .given in
+    let d = c .before .before .before .before .before in
+    let s = start-of d in
+    let down = sum-refused (s .args .k) (length (now (s .args .seats))) (s .args .tries-allowed) (now (s .args .stakes)) (now (s .args .counts)) (s .args .max-samples) (x .0 .0) (s .pre .0) (number-got _ _ (x .0 .0) (sym (x .1) ∙ d .checked-sums .ensures .0)) in
+    quorum-refused (s .args .k) (s .args .tries-allowed) (now (s .args .stakes)) (now (s .args .counts)) (s .args .max-samples) (drop (s .args .cursor) (now (s .args .list))) (now (s .args .seats)) (x .0 .0) down
 
 pub quorum-in-scratch-spec : {M : Type 1} → statement M
 quorum-in-scratch-spec =
     tie.close
     (tie.spec
-    running-sums-requires
-    slice-reshare-prefix-fill-quorum
-    slice-aggregate-fill-quorum
-    slice-relend-prefix-fill-quorum
-    slice-aggregate-fill-quorum-2
-    slice-relend-prefix-fill-quorum-2
-    slice-aggregate-fill-quorum-3
-    fill-quorum-requires
+    checked-sums-requires
+    enum-told
+    slice-reshare-prefix-quorum-of-sums
+    slice-aggregate-quorum-of-sums
+    quorum-of-sums-requires
+    enum-known-x
     same-length
     same-length-2
     same-length-3
     same-length-4
     same-length-5
-    returns)
+    returns
+    same-length-6
+    returns-2)

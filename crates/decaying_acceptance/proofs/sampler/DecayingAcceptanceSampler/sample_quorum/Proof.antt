@@ -1,25 +1,22 @@
 -- `decaying_acceptance::sampler::DecayingAcceptanceSampler::sample_quorum` meets its contract.
-use mathlib.Core.Path.{sym, ap, _∙_}
+use mathlib.Core.Path.{sym, _∙_}
 use denote.Ref.{now}
-use lib.ListN.{length, take, drop}
-use Rattle.words.specs.Outcome.{Outcome, bufferAfter}
-use Rattle.words.proofs.Outcomes.{goes-on, turned-down}
-use Rattle.decaying_seats.specs.Seats.{Committee, committee, seatIds}
-use Rattle.decaying_seats.specs.Answers.{quorumAnswer, zeros}
+use lib.ListN.{length, drop}
+use Rattle.decaying_acceptance.proofs.CallLaws.{size-refused, quorum-refused}
 use borrow.Author.Needs.{needs}
 use Rattle.decaying_acceptance.proofs.sampler.DecayingAcceptanceSampler.sample_quorum.Statement.{
   statement,
 }
 use Rattle.decaying_acceptance.proofs.sampler.DecayingAcceptanceSampler.sample_quorum.Tie as tie
 
-refusal-requires : tie.Need-refusal-requires
-refusal-requires c κs = search needs
+size-refusal-requires : tie.Need-size-refusal-requires
+size-refusal-requires c κs = search needs
 
 enum-told : tie.Need-enum-told
 enum-told c = search needs
 
 draw-quorum-requires : tie.Need-draw-quorum-requires
-draw-quorum-requires c κs = sym (c .before .before .before .before .refusal .ensures) ∙ c .before .before .enum-told .given .1
+draw-quorum-requires c κs = sym (c .before .before .before .before .size-refusal .ensures) ∙ c .before .before .enum-told .given .1
 
 enum-known-n : tie.Need-enum-known-n
 enum-known-n c = search needs
@@ -31,47 +28,25 @@ same-length-2 : tie.Need-same-length-2
 same-length-2 c = search needs
 
 returns : tie.Need-returns
-returns c =
-    let d = c .before .before .before .before in
-    let q = d .before .before .before .before .before in
-    let a = q .before .before .before .before .before .before .args in
-    let ws = drop (a .cursor) (now (a .list)) in
-    let stored = take (length (now (a .stakes))) (now (a .counts)) in
-    let e =
-    sym (goes-on _ (committee (a .self .k) (a .self .«tries_allowed») (now (a .stakes)) stored (a .self .«max_samples») ws) (sym (q .refusal .ensures) ∙ d .before .before .before .enum-told .given .1)) in (
-      d .draw-quorum .ensures .0 ∙ ap (quorumAnswer ws) e,
-      (
-        d .draw-quorum .ensures .1 .0 ∙ ap (λ (o : Outcome Committee). bufferAfter o seatIds (now (a .seats))) e,
-        d .draw-quorum .ensures .1 .1 ∙ ap (λ (o : Outcome Committee). bufferAfter o (zeros (now (a .stakes))) (now (a .counts))) e,
-      ),
-    )
-
-same-length-3 : tie.Need-same-length-3
-same-length-3 c = search needs
+returns c = search needs
 
 returns-2 : tie.Need-returns-2
 returns-2 c =
-    let n = c .before in
-    let q = n .before .before in
-    let a = q .before .before .before .before .before .before .args in
-    let ws = drop (a .cursor) (now (a .list)) in
-    let stored = take (length (now (a .stakes))) (now (a .counts)) in
-    let e =
-    sym (turned-down _ (committee (a .self .k) (a .self .«tries_allowed») (now (a .stakes)) stored (a .self .«max_samples») ws) (sym (q .refusal .ensures) ∙ n .n .given .1)) in (
-      ap (quorumAnswer ws) e,
-      (ap (λ (o : Outcome Committee). bufferAfter o seatIds (now (a .seats))) e, ap (λ (o : Outcome Committee). bufferAfter o (zeros (now (a .stakes))) (now (a .counts))) e),
-    )
+    let n = c .before .n .given in
+    let q = c .before .before .before in
+    let a = q .before .before .before .before .before .args in
+    let down = size-refused (a .self .k) (length (now (a .seats))) (a .self .«tries_allowed») (now (a .stakes)) (now (a .counts)) (a .self .«max_samples») (n .0 .0) (sym (q .size-refusal .ensures) ∙ n .1) in
+    quorum-refused (a .self .k) (a .self .«tries_allowed») (now (a .stakes)) (now (a .counts)) (a .self .«max_samples») (drop (a .cursor) (now (a .list))) (now (a .seats)) (n .0 .0) down
 
 pub sample-quorum-spec : {M : Type 1} → statement M
 sample-quorum-spec =
     tie.close
     (tie.spec
-    refusal-requires
+    size-refusal-requires
     enum-told
     draw-quorum-requires
     enum-known-n
     same-length
     same-length-2
     returns
-    same-length-3
     returns-2)

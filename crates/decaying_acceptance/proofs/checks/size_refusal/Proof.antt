@@ -1,35 +1,31 @@
--- `decaying_acceptance::checks::refusal` meets its contract.
+-- `decaying_acceptance::checks::size_refusal` meets its contract.
 use mathlib.Core.Path.{_≡_, sym, _∙_}
-use denote.Ref.{now}
-use lib.ListN.{length}
-use Rattle.refusals.specs.declared.Refusal.{Refusal}
-use Rattle.refusals.specs.declared.Refusal.the-variants.{Number}
-use Rattle.refusals.specs.Refusals.{lowest}
-use Rattle.decaying_acceptance.specs.Calls.{quorumChecks}
-use Rattle.decaying_acceptance.proofs.CallLaws.{bufferChecks, past-input}
-use borrow.Author.Tests.{lt-ltb, le-ltb, ltb-false}
+use mathlib.Core.List.{[], _∷_}
+use Rattle.refusals.specs.Refusals.{lowest, shortBuffer}
+use Rattle.decaying_acceptance.specs.Calls.{sizeChecks}
+use Rattle.decaying_acceptance.proofs.CallLaws.{past-input}
+use borrow.Author.Tests.{lt-ltb, le-ltb}
 use borrow.Author.Needs.{needs}
-use Rattle.decaying_acceptance.proofs.checks.refusal.Statement.{statement}
-use Rattle.decaying_acceptance.proofs.checks.refusal.Tie as tie
+use Rattle.decaying_acceptance.proofs.checks.size_refusal.Statement.{statement}
+use Rattle.decaying_acceptance.proofs.checks.size_refusal.Tie as tie
 
 abbrev start-of : tie.Else4 → tie.Start
-start-of c = c .before .before .before .before .before .before .before .before .before .before
+start-of c = c .before .before .before .before .before .before .before .before
 
 -- no check before those of the lent buffers applies
-past : (c : tie.Else4) (r : Refusal) →
+past : (c : tie.Else4) →
     let a = start-of c .args in
-    r ≡ lowest (bufferChecks (a .k) (a .room) (now (a .stakes)) (now (a .counts))) →
-    r ≡ lowest (quorumChecks (a .k) (a .room) (a .tries-allowed) (now (a .stakes)) (now (a .counts)) (a .max-samples))
-past c r e =
+    lowest (sizeChecks (a .k) (a .room) (a .tries-allowed) (a .n) (a .held) (a .max-samples)) ≡ lowest (shortBuffer (a .room) (a .k) ∷ shortBuffer (a .held) (a .n) ∷ [])
+past c =
     let t = c .before .before in
     let z = t .before .before in
     let l = z .before .before in
-    past-input (start-of c .args .k) (start-of c .args .room) (start-of c .args .tries-allowed) (now (start-of c .args .stakes)) (now (start-of c .args .counts)) (start-of c .args .max-samples) r
+    let a = start-of c .args in
+    past-input (a .k) (a .room) (a .tries-allowed) (a .n) (a .held) (a .max-samples)
     (sym (l .before .bad-list-length .ensures) ∙ l .if1 .left)
     (sym (z .before .bad-size .ensures) ∙ z .if2 .left)
     (sym (t .before .bad-tries-allowed .ensures) ∙ t .if3 .left)
     (sym (c .before .bad-max-samples .ensures) ∙ c .if4 .left)
-    e
 
 bad-list-length-requires : tie.Need-bad-list-length-requires
 bad-list-length-requires c κs = search needs
@@ -67,30 +63,22 @@ returns-4 c =
 returns-5 : tie.Need-returns-5
 returns-5 c =
     let a = start-of (c .before) .args in
-    past (c .before) (Number 7) (rw (lt-ltb (a .room) (a .k) (c .if5 .taken)))
+    rw (past (c .before), lt-ltb (a .room) (a .k) (c .if5 .taken))
 
 returns-6 : tie.Need-returns-6
 returns-6 c =
     let r = c .before in
     let a = start-of (r .before) .args in
-    past (r .before) (Number 7)
-    (rw (le-ltb (a .room) (a .k) (r .if5 .left), lt-ltb (length (now (a .counts))) (length (now (a .stakes))) (c .if6 .taken)))
-
-sum-or-count-refusal-requires : tie.Need-sum-or-count-refusal-requires
-sum-or-count-refusal-requires c κs =
-    let z = c .before .before .before .before .before .before in
-    (ltb-false 1024 (start-of (c .before .before) .args .k) (sym (z .before .bad-size .ensures) ∙ z .if2 .left), c .if6 .left)
+    rw (past (r .before), le-ltb (a .room) (a .k) (r .if5 .left), lt-ltb (a .held) (a .n) (c .if6 .taken))
 
 returns-7 : tie.Need-returns-7
 returns-7 c =
-    let r = c .before .before in
+    let r = c .before in
     let a = start-of (r .before) .args in
-    past (r .before) (c .sum-or-count-refusal .result)
-    (rw (le-ltb (a .room) (a .k) (r .if5 .left), le-ltb (length (now (a .counts))) (length (now (a .stakes))) (c .before .if6 .left))
-    (c .sum-or-count-refusal .ensures))
+    rw (past (r .before), le-ltb (a .room) (a .k) (r .if5 .left), le-ltb (a .held) (a .n) (c .if6 .left))
 
-pub refusal-spec : {M : Type 1} → statement M
-refusal-spec =
+pub size-refusal-spec : {M : Type 1} → statement M
+size-refusal-spec =
     tie.close
     (tie.spec
     bad-list-length-requires
@@ -103,5 +91,4 @@ refusal-spec =
     returns-4
     returns-5
     returns-6
-    sum-or-count-refusal-requires
     returns-7)
