@@ -120,16 +120,6 @@ pub fn check_sum(stakes: &[u64]) -> Summed
     }
 }
 
-// Likewise, where the sum is not needed.
-pub fn bad_sum(stakes: &[u64]) -> Refusal
-    ensures { λ r. ⌜ r ≡ lowest (sumPast (now (stakes .entry)) ∷ totalZero (now (stakes .entry)) ∷ []) ⌝ }
-{
-    match check_sum(stakes) {
-        Summed::Sum(_) => Refusal::None,
-        Summed::Refused(n) => Refusal::Number(n),
-    }
-}
-
 // 10, for the counts of n validators and k seats.
 pub fn bad_counts(counts: &[u32], n: usize, k: usize) -> bool
     requires { ⌜ n ≤ length (now counts) ⌝ }
