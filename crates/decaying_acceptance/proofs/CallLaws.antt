@@ -7,7 +7,7 @@ use lib.ListN.{length, take}
 use lib.Ieee.{Float}
 use borrow.Author.Tests.{ltb-false}
 use Rattle.refusals.specs.declared.Refusal.the-variants.{None, Number}
-use Rattle.refusals.specs.Refusals.{Check, lowest, listLength, size, triesAllowed, maxSamples, shortBuffer, countLimit}
+use Rattle.refusals.specs.Refusals.{Check, lowest, listLength, size, triesAllowed, maxSamples, shortBuffer, countLimit, sumChecks}
 use Rattle.refusals.proofs.CheckLaws.{passed, both-passed, after-none, after-number, within, Listed, listed, Summed, summed}
 use Rattle.words.specs.Outcome.{Outcome, refused, bufferAfter}
 use Rattle.words.proofs.Outcomes.{turned-down}
@@ -17,7 +17,7 @@ use Rattle.decaying_seats.specs.declared.answers.SampleAnswer.the-variants as s
 use Rattle.decaying_seats.specs.declared.answers.QuorumAnswer.the-variants as many
 use Rattle.decaying_seats.specs.Seats.{Committee, committee, seatIds}
 use Rattle.decaying_seats.specs.Answers.{sampleAnswer, countsAfter, quorumAnswer, zeros}
-use Rattle.decaying_acceptance.specs.Calls.{sizeChecks, sumChecks, quorumChecks, one, quorum}
+use Rattle.decaying_acceptance.specs.Calls.{sizeChecks, quorumChecks, one, quorum}
 
 -- where no check before those of the lent buffers applies
 pub past-input : (k room allowed n held : ℕ) (max : Float) → listLength n .applies ≡ false → size k .applies ≡ false → triesAllowed allowed .applies ≡ false →

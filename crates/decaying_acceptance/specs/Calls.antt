@@ -3,15 +3,11 @@ use Prim.Native.Nat.{ℕ}
 use mathlib.Core.List.{List, [], _∷_, _++_}
 use lib.ListN.{length, take}
 use lib.Ieee.{Float}
-use Rattle.refusals.specs.Refusals.{Check, lowest, listLength, size, triesAllowed, maxSamples, shortBuffer, sumPast, totalZero, countLimit}
+use Rattle.refusals.specs.Refusals.{Check, lowest, listLength, size, triesAllowed, maxSamples, shortBuffer, sumChecks, countLimit}
 use Rattle.words.specs.Outcome.{Outcome, unless}
 use Rattle.tries.specs.declared.Seat.{Seat}
 use Rattle.tries.specs.Tries.{seat}
 use Rattle.decaying_seats.specs.Seats.{Committee, committee}
-
--- 8 and 9: by the sum
-abbrev pub sumChecks : List ℕ → List Check
-sumChecks stakes = sumPast stakes ∷ totalZero stakes ∷ []
 
 -- `sample_one`: 1, 3, 4, 7, 8, 9, 10 with k = 1
 abbrev pub oneChecks : ℕ → List ℕ → List ℕ → Float → List Check

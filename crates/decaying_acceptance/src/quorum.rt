@@ -8,11 +8,11 @@ ghost use mathlib.Core.Path.{_≡_};
 ghost use lib.ListN.{length, drop};
 ghost use Rattle.laws.specs.Sums.{runningSums};
 ghost use Rattle.refusals.specs.declared.Refusal.the-variants.{None};
-ghost use Rattle.refusals.specs.Refusals.{lowest};
+ghost use Rattle.refusals.specs.Refusals.{lowest, sumChecks};
 ghost use Rattle.words.specs.Outcome.{bufferAfter};
 ghost use Rattle.decaying_seats.specs.Seats.{seatIds};
 ghost use Rattle.decaying_seats.specs.Answers.{quorumAnswer, zeros};
-ghost use Rattle.decaying_acceptance.specs.Calls.{sizeChecks, sumChecks, quorum};
+ghost use Rattle.decaying_acceptance.specs.Calls.{sizeChecks, quorum};
 
 // A committee of k, from the running sums of the stakes, with scratch space for the raised counts and for the seats while they are
 // drawn.

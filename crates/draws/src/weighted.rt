@@ -5,10 +5,10 @@ use refusals::Summed;
 use words::Words;
 ghost use Prim.Native.Nat.{_^_, _≤_, _<_};
 ghost use mathlib.Core.Path.{_≡_};
-ghost use mathlib.Core.List.{[], _∷_, _++_};
+ghost use mathlib.Core.List.{_++_};
 ghost use lib.ListN.{length, drop};
 ghost use Rattle.laws.specs.Sums.{total, runningSums};
-ghost use Rattle.refusals.specs.Refusals.{lowest, sumPast, totalZero};
+ghost use Rattle.refusals.specs.Refusals.{lowest, sumChecks};
 ghost use Rattle.refusals.specs.Answers.{summedBy};
 ghost use Rattle.words.specs.Outcome.{leftAfter};
 ghost use Rattle.words.specs.Stream.{stream};
@@ -46,7 +46,7 @@ pub fn running_sums(weights: &[u64], sums: &mut [u64])
 // as in `Stake::sum`.
 pub fn checked_sums(weights: &[u64], sums: &mut [u64]) -> Summed
     requires { ⌜ length (now weights) ≤ length (now sums) ⌝ }
-    ensures { λ r. ⌜ r ≡ summedBy (lowest (sumPast (now (weights .entry)) ∷ totalZero (now (weights .entry)) ∷ [])) (total (now (weights .entry))) ⌝ }
+    ensures { λ r. ⌜ r ≡ summedBy (lowest (sumChecks (now (weights .entry)))) (total (now (weights .entry))) ⌝ }
     ensures { λ r. ⌜ SumsHeld r (now (weights .entry)) (now (sums .entry)) (now (sums .exit)) ⌝ }
 {
     let mut sum: u64 = 0;

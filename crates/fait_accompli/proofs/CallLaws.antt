@@ -8,7 +8,7 @@ use borrow.Author.Tests.{ltb-false}
 use Rattle.laws.specs.Sums.{total}
 use Rattle.refusals.specs.declared.Refusal.{Refusal}
 use Rattle.refusals.specs.declared.Refusal.the-variants.{None, Number}
-use Rattle.refusals.specs.Refusals.{lowest, listLength, committeeSize, shortBuffer}
+use Rattle.refusals.specs.Refusals.{lowest, listLength, committeeSize, shortBuffer, sumChecks}
 use Rattle.refusals.proofs.CheckLaws.{passed, after-none, after-number, listed, sized, summed}
 use Rattle.words.specs.Outcome.{refused, unless}
 use Rattle.words.proofs.Outcomes.{turned-down}
@@ -17,7 +17,7 @@ use Rattle.partition.proofs.CallLaws.{room-for-pieces}
 use Rattle.fait_accompli.specs.declared.sampler.Fallback.{Fallback}
 use Rattle.fait_accompli.specs.declared.sampler.Fallback.the-variants.{Bins, Draws}
 use Rattle.fait_accompli.specs.Seats.{sizeOf, committee}
-use Rattle.fait_accompli.specs.Calls.{pieceChecks, sizeChecks, sumChecks, binChecks, quorum}
+use Rattle.fait_accompli.specs.Calls.{pieceChecks, sizeChecks, binChecks, quorum}
 use Rattle.fait_accompli.specs.Fallbacks.{Roomy, Admitted, committeeOver}
 
 -- the check of the pieces does not look at the seats

@@ -3,7 +3,7 @@ use Prim.Native.Nat.{ℕ, _+_}
 use mathlib.Core.List.{List, [], _∷_, _++_}
 use lib.ListN.{length}
 use Rattle.laws.specs.Sums.{total}
-use Rattle.refusals.specs.Refusals.{Check, lowest, listLength, committeeSize, shortBuffer, sumPast, totalZero, emptyBin}
+use Rattle.refusals.specs.Refusals.{Check, lowest, listLength, committeeSize, shortBuffer, sumChecks, emptyBin}
 use Rattle.words.specs.Outcome.{Outcome, unless}
 use Rattle.partition.specs.Seats.{capacity}
 use Rattle.partition.specs.Calls.{Places, shortPieces}
@@ -20,10 +20,6 @@ pieceChecks (Draws k) n p = []
 -- 1, 2 and 7: by the sizes alone
 abbrev pub sizeChecks : Fallback → ℕ → Places → List Check
 sizeChecks f n p = listLength n ∷ committeeSize (sizeOf f) ∷ shortBuffer (p .seats) (sizeOf f) ∷ pieceChecks f n p
-
--- 8 and 9: by the sum
-abbrev pub sumChecks : List ℕ → List Check
-sumChecks list = sumPast list ∷ totalZero list ∷ []
 
 -- 11: "k' in FA1"
 abbrev pub binChecks : Fallback → List ℕ → List Check

@@ -11,7 +11,7 @@ use borrow.Author.Tests.{ltb-true, ltb-false, leb-false, le-leb}
 use Rattle.laws.specs.Sums.{total}
 use Rattle.refusals.specs.declared.Refusal.{Refusal}
 use Rattle.refusals.specs.declared.Refusal.the-variants.{None, Number}
-use Rattle.refusals.specs.Refusals.{Check, lowest, listLength, size, shortBuffer, sumPast, totalZero, emptyBin}
+use Rattle.refusals.specs.Refusals.{Check, lowest, listLength, size, shortBuffer, sumChecks, emptyBin}
 use Rattle.refusals.proofs.CheckLaws.{passed, after-none, after-number, listed, summed}
 use Rattle.words.specs.Outcome.{refused, accepted, unless}
 use Rattle.words.proofs.Outcomes.{turned-down}
@@ -91,7 +91,7 @@ pub record Admitted (stakes : List ℕ) (S b : ℕ) (p : Places) : Type 0 where
 
 pub admitted : (stakes : List ℕ) (S b : ℕ) (p : Places) →
     lowest (listLength (length stakes) ∷ size b ∷ shortBuffer (p .seats) b ∷ shortPieces p (mostPieces (length stakes) b) ∷ []) ≡ None →
-    lowest (sumPast stakes ∷ totalZero stakes ∷ []) ≡ None → S ≡ total stakes → Admitted stakes S b p
+    lowest (sumChecks stakes) ≡ None → S ≡ total stakes → Admitted stakes S b p
 admitted stakes S b p e f q =
     let n = length stakes in
     let pieces = shortPieces p (mostPieces n b) in
@@ -118,7 +118,7 @@ module _ (stakes : List ℕ) (b : ℕ) (p : Places) (first second : List ℕ) wh
   bySize = listLength (length stakes) ∷ size b ∷ shortBuffer (p .seats) b ∷ shortPieces p (mostPieces (length stakes) b) ∷ []
 
   abbrev pub bySum : List Check
-  bySum = sumPast stakes ∷ totalZero stakes ∷ []
+  bySum = sumChecks stakes
 
   abbrev byBins : List Check
   byBins = emptyBin (capacity (total stakes) b) (total stakes) b ∷ []

@@ -1,11 +1,11 @@
 -- What a call gives: the lowest refusal from its input, else the seats of the bins.
 use Prim.Native.Nat.{ℕ, zero, suc, _+_}
 use mathlib.Core.Bool.{_||_}
-use mathlib.Core.List.{List, [], _∷_}
+use mathlib.Core.List.{List, [], _∷_, _++_}
 use lib.Dec.{ltb}
 use lib.ListN.{length}
 use Rattle.laws.specs.Sums.{total}
-use Rattle.refusals.specs.Refusals.{Check, lowest, listLength, size, shortBuffer, sumPast, totalZero, emptyBin}
+use Rattle.refusals.specs.Refusals.{Check, lowest, listLength, size, shortBuffer, sumChecks, emptyBin}
 use Rattle.words.specs.Outcome.{Outcome, unless}
 use Rattle.partition.specs.Seats.{capacity, Parted, overBins}
 
@@ -28,10 +28,8 @@ mostPieces n (suc b) = n + suc b
 -- `PartitionSampler::sample_quorum`: 1, 2, 7, 8, 9, 11
 abbrev pub quorumChecks : List ℕ → ℕ → Places → List Check
 quorumChecks stakes b p =
-    listLength (length stakes) ∷ size b ∷ shortBuffer (p .seats) b ∷ shortPieces p (mostPieces (length stakes) b) ∷ sumPast stakes
-    ∷ totalZero stakes
-    ∷ emptyBin (capacity (total stakes) b) (total stakes) b
-    ∷ []
+    listLength (length stakes) ∷ size b ∷ shortBuffer (p .seats) b ∷ shortPieces p (mostPieces (length stakes) b)
+    ∷ (sumChecks stakes ++ (emptyBin (capacity (total stakes) b) (total stakes) b ∷ []))
 
 -- then the seats of b bins, and 12
 abbrev pub quorum : List ℕ → ℕ → Places → List ℕ → List ℕ → Outcome Parted

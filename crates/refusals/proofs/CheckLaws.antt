@@ -15,7 +15,7 @@ use Rattle.refusals.specs.declared.Refusal.{Refusal}
 use Rattle.refusals.specs.declared.Refusal.the-variants.{None, Number}
 use Rattle.refusals.specs.declared.Summed.the-variants.{Sum, Refused}
 use Rattle.refusals.specs.Answers.{summedBy}
-use Rattle.refusals.specs.Refusals.{Check, lowest, numberOf, overOrZero, listLength, committeeSize, sumPast, totalZero, anyAbove, countLimit}
+use Rattle.refusals.specs.Refusals.{Check, lowest, numberOf, overOrZero, listLength, committeeSize, sumPast, totalZero, anyAbove, countLimit, sumChecks}
 
 -- where no check applies, the first does not, nor any after it
 pub record Passed (c : Check) (cs : List Check) : Type 0 where
@@ -146,16 +146,13 @@ any-next xs limit over next i l h d =
     came (inr (m, e)) = rw (e, le-ltb limit (getD xs i 0) m) (sym (or-false over))
 
 -- the sum: past 2^64 − 1, zero, or neither
-abbrev pub sumRefusal : List ℕ → Refusal
-sumRefusal stakes = lowest (sumPast stakes ∷ totalZero stakes ∷ [])
-
-pub sum-past : (stakes : List ℕ) → 2 ^ 64 ≤ total stakes → sumRefusal stakes ≡ Number 8
+pub sum-past : (stakes : List ℕ) → 2 ^ 64 ≤ total stakes → lowest (sumChecks stakes) ≡ Number 8
 sum-past stakes h = rw (le-leb (2 ^ 64) (total stakes) h)
 
-pub sum-zero : (stakes : List ℕ) → total stakes ≡ 0 → sumRefusal stakes ≡ Number 9
+pub sum-zero : (stakes : List ℕ) → total stakes ≡ 0 → lowest (sumChecks stakes) ≡ Number 9
 sum-zero stakes e = rw (e)
 
-pub sum-fine : (stakes : List ℕ) → total stakes < 2 ^ 64 → (total stakes ≡ 0 → ⊥) → sumRefusal stakes ≡ None
+pub sum-fine : (stakes : List ℕ) → total stakes < 2 ^ 64 → (total stakes ≡ 0 → ⊥) → lowest (sumChecks stakes) ≡ None
 sum-fine stakes h e = rw (lt-leb (2 ^ 64) (total stakes) h, ne-eqb (total stakes) 0 e)
 
 -- what the answer of `check_sum` tells
@@ -172,7 +169,7 @@ pub record Summed (stakes : List ℕ) : Type 0 where
   pub fits : total stakes < 2 ^ 64
   pub above : 0 < total stakes
 
-pub summed : (stakes : List ℕ) → sumRefusal stakes ≡ None → Summed stakes
+pub summed : (stakes : List ℕ) → lowest (sumChecks stakes) ≡ None → Summed stakes
 summed stakes e =
     let p = passed (sumPast stakes) (totalZero stakes ∷ []) e in
     let q = passed (totalZero stakes) [] (p .rest) in

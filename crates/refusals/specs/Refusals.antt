@@ -73,6 +73,10 @@ sumPast stakes = record { number = 8; applies = leb (2 ^ 64) (total stakes) }
 abbrev pub totalZero : List ℕ → Check
 totalZero stakes = record { number = 9; applies = eqb (total stakes) 0 }
 
+-- both, in this order: what the sum decides
+abbrev pub sumChecks : List ℕ → List Check
+sumChecks stakes = sumPast stakes ∷ totalZero stakes ∷ []
+
 -- one of the numbers exceeds the limit
 abbrev pub anyAbove : ℕ → List ℕ → Bool
 anyAbove limit [] = false

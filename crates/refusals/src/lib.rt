@@ -3,10 +3,9 @@ use types::CheckedStake;
 use types::Stake;
 ghost use Prim.Native.Nat.{_*_, _-_, _≤_, _<_, _^_};
 ghost use mathlib.Core.Path.{_≡_};
-ghost use mathlib.Core.List.{[], _∷_};
 ghost use lib.ListN.{length};
 ghost use Rattle.laws.specs.Sums.{total};
-ghost use Rattle.refusals.specs.Refusals.{lowest, overOrZero, listLength, size, committeeSize, emptyBin, triesAllowed, maxSamples, fanoutLimit, notBelow, sumPast, totalZero, countLimit};
+ghost use Rattle.refusals.specs.Refusals.{lowest, overOrZero, listLength, size, committeeSize, emptyBin, triesAllowed, maxSamples, fanoutLimit, notBelow, sumChecks, countLimit};
 ghost use Rattle.refusals.specs.Answers.{summedBy};
 
 // Whether a call is turned down, and by which number.
@@ -105,7 +104,7 @@ pub fn bad_index(index: u64, bound: usize) -> bool
 
 // 8 and 9.
 pub fn check_sum(stakes: &[u64]) -> Summed
-    ensures { λ r. ⌜ r ≡ summedBy (lowest (sumPast (now (stakes .entry)) ∷ totalZero (now (stakes .entry)) ∷ [])) (total (now (stakes .entry))) ⌝ }
+    ensures { λ r. ⌜ r ≡ summedBy (lowest (sumChecks (now (stakes .entry)))) (total (now (stakes .entry))) ⌝ }
 {
     match Stake::sum(stakes) {
         CheckedStake::Some(sum) => {

@@ -8,7 +8,7 @@ use lib.ListN.{length, drop}
 use borrow.Author.Tests.{ltb-false}
 use Rattle.laws.specs.Sums.{total}
 use Rattle.refusals.specs.declared.Refusal.the-variants.{None, Number}
-use Rattle.refusals.specs.Refusals.{lowest, listLength, size, shortBuffer, noWordLeft}
+use Rattle.refusals.specs.Refusals.{lowest, listLength, size, shortBuffer, noWordLeft, sumChecks}
 use Rattle.refusals.proofs.CheckLaws.{passed, Listed, listed, Summed, summed, after-none, after-number}
 use Rattle.types.specs.declared.validator_index.ValidatorIndex.{ValidatorIndex}
 use Rattle.words.specs.Outcome.{Outcome, refused, accepted, next, bufferAfter}
@@ -19,7 +19,7 @@ use Rattle.draws.specs.Weighted.{placeOf, weighted, ids}
 use Rattle.stake_weighted.specs.declared.SampleAnswer.the-variants as one
 use Rattle.stake_weighted.specs.declared.QuorumAnswer.the-variants as many
 use Rattle.stake_weighted.specs.Seats.{iid, iidSeats}
-use Rattle.stake_weighted.specs.Calls.{sample, sizeChecks, sumChecks, quorumChecks, quorum}
+use Rattle.stake_weighted.specs.Calls.{sample, sizeChecks, quorumChecks, quorum}
 use Rattle.stake_weighted.specs.Answers.{sampleAnswer, quorumAnswer}
 
 -- the sizes of a call that they do not turn down

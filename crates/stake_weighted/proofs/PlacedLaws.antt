@@ -4,7 +4,7 @@ use mathlib.Core.Path.{_≡_, refl, ap}
 use mathlib.Core.List.{List, []}
 use lib.ListN.{length, replicate}
 use Rattle.laws.specs.Sums.{total}
-use Rattle.refusals.specs.Refusals.{lowest, listLength}
+use Rattle.refusals.specs.Refusals.{lowest, listLength, sumChecks}
 use Rattle.refusals.proofs.CheckLaws.{passed, summed}
 use Rattle.words.specs.Outcome.{accepted}
 use Rattle.words.proofs.Outcomes.{unrefused}
@@ -13,7 +13,7 @@ use Rattle.draws.specs.declared.weighted.Place.{Place}
 use Rattle.draws.specs.Weighted.{weighted}
 use Rattle.draws.proofs.WeightedLaws.{placed}
 use Rattle.stake_weighted.specs.Seats.{iid}
-use Rattle.stake_weighted.specs.Calls.{sampleChecks, sumChecks, quorumChecks}
+use Rattle.stake_weighted.specs.Calls.{sampleChecks, quorumChecks}
 use Rattle.stake_weighted.specs.Laws.{SamplePlaced, Committee, QuorumPlaced}
 use Rattle.stake_weighted.proofs.CallLaws.{quorum-summed}
 

@@ -2,15 +2,11 @@
 use Prim.Native.Nat.{ℕ}
 use mathlib.Core.List.{List, [], _∷_, _++_}
 use lib.ListN.{length}
-use Rattle.refusals.specs.Refusals.{Check, lowest, listLength, size, shortBuffer, sumPast, totalZero}
+use Rattle.refusals.specs.Refusals.{Check, lowest, listLength, size, shortBuffer, sumChecks}
 use Rattle.words.specs.Outcome.{Outcome, unless}
 use Rattle.draws.specs.declared.weighted.Place.{Place}
 use Rattle.draws.specs.Weighted.{weighted}
 use Rattle.stake_weighted.specs.Seats.{iid}
-
--- 8 and 9: by the sum
-abbrev pub sumChecks : List ℕ → List Check
-sumChecks stakes = sumPast stakes ∷ totalZero stakes ∷ []
 
 -- `StakeWeightedSampler::sample`: 1, 8, 9
 abbrev pub sampleChecks : List ℕ → List Check

@@ -14,7 +14,7 @@ use Rattle.laws.proofs.Sums.{total-at}
 use Rattle.laws.proofs.Counts.{count-none}
 use Rattle.laws.proofs.Lists.{sum-append}
 use Rattle.refusals.specs.declared.Refusal.the-variants.{None}
-use Rattle.refusals.specs.Refusals.{lowest, listLength, committeeSize, shortBuffer, sumPast, totalZero, emptyBin}
+use Rattle.refusals.specs.Refusals.{lowest, listLength, committeeSize, shortBuffer, sumPast, totalZero, emptyBin, sumChecks}
 use Rattle.refusals.proofs.CheckLaws.{passed, last-passed, sized, summed}
 use Rattle.words.specs.Outcome.{Outcome, refused, accepted, bufferAfter}
 use Rattle.words.proofs.Outcomes.{Went, went, unrefused}
@@ -29,7 +29,7 @@ use Rattle.fait_accompli.specs.declared.answers.Committee as answer
 use Rattle.fait_accompli.specs.declared.answers.CommitteeAnswer.the-variants.{Accepted}
 use Rattle.fixed_seats.specs.Fixed.{fixed, kept, fixedOf, keptOf, further, repeated}
 use Rattle.fait_accompli.specs.Seats.{fallback, Committee, committee, seatsOf, piecesOf}
-use Rattle.fait_accompli.specs.Calls.{sumChecks, binChecks, quorumChecks, quorum}
+use Rattle.fait_accompli.specs.Calls.{binChecks, quorumChecks, quorum}
 use Rattle.fait_accompli.specs.Answers.{committeeAnswer, pieceBins, pieceValidators, pieceStakes}
 use Rattle.fixed_seats.proofs.KeptLaws.{rest, fixed-zero, kept-zero, rest-zero, kept-none, fixed-le, rest-sum}
 use Rattle.fait_accompli.proofs.BinLaws.{kept-le}

@@ -7,14 +7,13 @@ use denote.Ref.{now}
 use lib.ListN.{length, take, drop}
 use lib.Seq.{length-take-le}
 use Rattle.refusals.specs.declared.Refusal.the-variants.{None}
-use Rattle.refusals.specs.Refusals.{lowest}
+use Rattle.refusals.specs.Refusals.{lowest, sumChecks}
 use Rattle.refusals.proofs.CheckLaws.{sum-got, number-got, summed}
 use Rattle.words.specs.Outcome.{Outcome, bufferAfter}
 use Rattle.draws.specs.declared.weighted.Place.{Place}
 use Rattle.draws.specs.Weighted.{ids}
 use Rattle.draws.proofs.WeightedLaws.{Front, summed-front}
 use Rattle.stake_weighted.specs.Seats.{iid}
-use Rattle.stake_weighted.specs.Calls.{sumChecks}
 use Rattle.stake_weighted.specs.Answers.{quorumAnswer}
 use Rattle.stake_weighted.proofs.CallLaws.{Admitted, admitted, sum-refused, drawn}
 use borrow.Author.Needs.{needs}

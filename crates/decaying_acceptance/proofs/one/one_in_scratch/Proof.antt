@@ -6,7 +6,7 @@ use native.Mathlib.Omega.{arith}
 use denote.Ref.{now}
 use lib.ListN.{length, drop}
 use Rattle.refusals.specs.declared.Refusal.the-variants.{None}
-use Rattle.refusals.specs.Refusals.{lowest}
+use Rattle.refusals.specs.Refusals.{lowest, sumChecks}
 use Rattle.refusals.proofs.CheckLaws.{sum-got, number-got, summed}
 use Rattle.words.specs.Outcome.{Outcome}
 use Rattle.words.proofs.Outcomes.{goes-on}
@@ -14,7 +14,7 @@ use Rattle.draws.proofs.WeightedLaws.{Front, summed-front}
 use Rattle.tries.specs.declared.Seat.{Seat}
 use Rattle.tries.specs.Tries.{seat}
 use Rattle.decaying_seats.specs.Answers.{sampleAnswer, countsAfter}
-use Rattle.decaying_acceptance.specs.Calls.{sumChecks, one}
+use Rattle.decaying_acceptance.specs.Calls.{one}
 use Rattle.decaying_acceptance.proofs.CallLaws.{Admitted, admitted, sum-refused, count-refused, none-refused, one-refused}
 use borrow.Author.Needs.{needs}
 use Rattle.decaying_acceptance.proofs.one.one_in_scratch.Statement.{statement}

@@ -7,13 +7,13 @@ use lib.ListN.{length, drop}
 use Rattle.laws.specs.Sums.{total}
 use Rattle.refusals.specs.declared.Refusal.the-variants.{None}
 use Rattle.refusals.specs.declared.Summed.the-variants.{Sum}
-use Rattle.refusals.specs.Refusals.{lowest}
+use Rattle.refusals.specs.Refusals.{lowest, sumChecks}
 use Rattle.refusals.proofs.CheckLaws.{sum-got, number-got}
 use Rattle.words.specs.Outcome.{Outcome}
 use Rattle.partition.specs.Calls.{Places}
 use Rattle.fait_accompli.specs.declared.sampler.Fallback.{Fallback}
 use Rattle.fait_accompli.specs.Seats.{Committee}
-use Rattle.fait_accompli.specs.Calls.{sizeChecks, sumChecks, quorum}
+use Rattle.fait_accompli.specs.Calls.{sizeChecks, quorum}
 use Rattle.fait_accompli.proofs.CallLaws.{sizes-long, admitted, call-size-refused, call-sum-refused, call-drawn}
 use Rattle.fait_accompli.proofs.CommitteeLaws.{Given, given-down}
 use borrow.Author.Needs.{needs}
