@@ -32,8 +32,8 @@ module _ (weights : List ℕ) {whole : List ℕ} {k : ℕ} {ws seats : List ℕ}
   all : each seat (replicate k weights) whole ≡ iidSeats k weights whole
   all = sym (each-giving weighted (λ p. p .at) (replicate k weights) whole)
 
-  pub drawing-next : i < k → (p : Place) (left : List ℕ) → accepted p left ≡ weighted weights ws → Drawing weights whole k left (set seats i (p .at)) (i + 1)
-  drawing-next l p left e = draws.drawing-next d [] l (p .at) left (this l e)
+  pub drawing-next : i < k → (at : ℕ) (p : Place) (left : List ℕ) → at ≡ p .at → accepted p left ≡ weighted weights ws → Drawing weights whole k left (set seats i at) (i + 1)
+  drawing-next l at p left a e = rw a (draws.drawing-next d [] l (p .at) left (this l e))
 
   pub drawing-dry : i < k → refused noWordLeft ≡ weighted weights ws → refused noWordLeft ≡ iidSeats k weights whole
   drawing-dry l e = draws.drawing-stop d [] l noWordLeft (this l e) ∙ all

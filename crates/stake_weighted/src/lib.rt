@@ -167,7 +167,8 @@ pub fn draw_seats(
     while i < seats.len() {
         match below::draw_below(list, words, sum) {
             Below::Value(v) => {
-                seats[i] = sorted::first_above(sums, v) as u64;
+                let at = sorted::first_above(sums, v);
+                seats[i] = at as u64;
                 i += 1;
             }
             Below::NoWord => {

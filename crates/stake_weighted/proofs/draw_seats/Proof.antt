@@ -100,7 +100,7 @@ loop-again c =
     let ws = now (s .args .weights) in
     let v₀ = v .v .given .0 .0 in
     let e : c .first-above .result ≡ placeOf ws v₀ .at = ap (λ (p : Place). p .at) (found ws (now (s .args .sums)) v₀ (c .first-above .result) (s .pre .0) (less v) (c .first-above .ensures) .is) in
-    rw e (drawing-next _ (l .loop .inv .0) (omega (arith, l .loop .inv .0 .long)) (placeOf ws v₀) _ (by-value ws (stream (now (s .args .list)) (l .loop .words)) v₀ _ (valued v)), l .loop .inv .1)
+    (drawing-next _ (l .loop .inv .0) (omega (arith, l .loop .inv .0 .long)) (c .first-above .result) (placeOf ws v₀) _ e (by-value ws (stream (now (s .args .list)) (l .loop .words)) v₀ _ (valued v)), l .loop .inv .1)
 
 enum-told : tie.Need-enum-told Inv-loop μ-loop
 enum-told c = search needs
