@@ -1,5 +1,5 @@
 -- Laws of building: the sums of the tree of all weights, and the state before the first position.
-use Prim.Native.Nat.{ℕ, zero, suc, _+_, _-_, _*_, _≤_, _<_}
+use Prim.Native.Nat.{ℕ, suc, _+_, _-_, _*_, _≤_, _<_}
 use mathlib.Core.Path.{_≡_, refl, sym, ap, ap₂, _∙_}
 use mathlib.Core.List.{List, [], _++_}
 use native.Mathlib.Omega.{arith}
@@ -15,7 +15,7 @@ use Rattle.tree.proofs.SizeLaws.{shape}
 use Rattle.tree.proofs.Laws.{padded-total}
 use Rattle.shuffle_steps.specs.declared.drawing.Drawing.{Drawing}
 use Rattle.shuffle_steps.specs.Order.{counted, zerosOf, steps, whole, order}
-use Rattle.shuffle_steps.specs.Progress.{FromEnd, ahead, Progress, Valued, Built}
+use Rattle.shuffle_steps.specs.Progress.{FromEnd, ahead, Progress, Valued, Scratch, Built}
 use Rattle.shuffle_steps.proofs.BeginLaws.{length-counted, counted-fits}
 use Rattle.shuffle_steps.proofs.OrderLaws.{zeros-le, zeros-few}
 use Rattle.shuffle_steps.proofs.ProgressLaws.{valued-ahead, valued-value, valued-fine, valued-over}
@@ -57,40 +57,34 @@ module _ (ws : List ℕ) (few : length ws ≤ 4096) (s : Sizes) (sized : s ≡ s
   first-is : first ≡ 16 * above (deep n)
   first-is = omega (arith, nodes-are)
 
-  low : 16 * above (deep n) ≤ 272
-  low = go (deep n) (shape n few .small)
-    where
-      go : (d : ℕ) → d ≤ 2 → 16 * above d ≤ 272
-      go zero h = omega arith
-      go (suc zero) h = omega arith
-      go (suc (suc zero)) h = omega arith
-      go (suc (suc (suc d))) h = absurd (omega arith)
-
   pub some-nodes : 1 ≤ s .«num_nodes»
   some-nodes = omega (arith, nodes-are)
 
-  pub room-for-sums : (sums : List ℕ) → sums ≡ replicate 4368 0 → first + n ≤ length sums
-  room-for-sums sums e = omega (arith, first-is, low, few, ap length e, length-replicate {A = ℕ} 4368 0)
+  pub room-for-sums : {drawn sums : List ℕ} → Scratch n drawn sums → first + n ≤ length sums
+  room-for-sums s₀ = omega (arith, first-is, s₀ .nodes few)
 
-  module _ {sums₀ sums₁ : List ℕ} (clear : sums₀ ≡ replicate 4368 0) (laid : sums₁ ≡ take first sums₀ ++ (C ++ drop (first + n) sums₀)) where
+  module _ {drawn₀ sums₀ sums₁ : List ℕ} (s₀ : Scratch n drawn₀ sums₀) (laid : sums₁ ≡ take first sums₀ ++ (C ++ drop (first + n) sums₀)) where
+    abbrev m : ℕ
+    m = length sums₀
+
     abbrev Z : List ℕ
-    Z = replicate (4368 - (first + n)) 0
+    Z = replicate (m - (first + n)) 0
 
     long : length C ≡ n
     long = length-counted 0 ws
 
-    fits-in : first + n ≤ 4368
-    fits-in = omega (arith, first-is, low, few)
+    fits-in : first + n ≤ m
+    fits-in = room-for-sums s₀
 
     laid-is : sums₁ ≡ replicate first 0 ++ (C ++ Z)
     laid-is =
         laid
-        ∙ ap₂ (λ (us vs : List ℕ). us ++ (C ++ vs)) (ap (take first) clear ∙ take-zeros first 4368 (omega (arith, fits-in))) (ap (drop (first + n)) clear ∙ drop-zeros (first + n) 4368 fits-in)
+        ∙ ap₂ (λ (us vs : List ℕ). us ++ (C ++ vs)) (ap (take first) (s₀ .clear) ∙ take-zeros first m (omega (arith, fits-in))) (ap (drop (first + n)) (s₀ .clear) ∙ drop-zeros (first + n) m fits-in)
 
-    laid-long : length sums₁ ≡ 4368
+    laid-long : length sums₁ ≡ m
     laid-long =
         ap length laid-is
-        ∙ omega (arith, length-append (replicate first 0) (C ++ Z), length-append C Z, length-replicate {A = ℕ} first 0, length-replicate {A = ℕ} (4368 - (first + n)) 0, long, fits-in)
+        ∙ omega (arith, length-append (replicate first 0) (C ++ Z), length-append C Z, length-replicate {A = ℕ} first 0, length-replicate {A = ℕ} (m - (first + n)) 0, long, fits-in)
 
     pub laid-room : first + n ≤ length sums₁
     laid-room = omega (arith, laid-long, fits-in)
@@ -106,13 +100,13 @@ module _ (ws : List ℕ) (few : length ws ≤ 4096) (s : Sizes) (sized : s ≡ s
         let e : 16 * rows n ≡ length C + (16 * rows n - n) = omega (arith, long) in
         ap₂ (λ (k : ℕ) (us : List ℕ). take k us) e (ap (λ (k : ℕ). drop k sums₁) (sym first-is) ∙ behind)
         ∙ take-append-add C Z (16 * rows n - n)
-        ∙ ap (λ (us : List ℕ). C ++ us) (take-zeros (16 * rows n - n) (4368 - (first + n)) (omega (arith, first-is, low, few)))
+        ∙ ap (λ (us : List ℕ). C ++ us) (take-zeros (16 * rows n - n) (m - (first + n)) (omega (arith, first-is, s₀ .nodes few)))
         ∙ ap (λ (k : ℕ). C ++ replicate (16 * rows k - k) 0) (sym long)
 
     pub laid-lowest : Lowest n sums₁
     laid-lowest = record {
       few = few;
-      room = omega (arith, laid-long, first-is, low, few);
+      room = omega (arith, laid-long, s₀ .nodes few);
       clear = ap (λ (k : ℕ). take k sums₁) (sym first-is) ∙ ap (take first) laid-is ∙ take-at (replicate first 0) (C ++ Z) first (length-replicate first 0) ∙ ap (λ (k : ℕ). replicate k 0) first-is;
       fits = omega (arith, ap total row, padded-total C, counted-fits 0 ws (omega arith));
     }

@@ -1,10 +1,10 @@
 -- How far a shuffle has come: what holds of its state while it draws. Internal functions alone cite this.
-use Prim.Native.Nat.{ℕ, zero, suc, _+_, _-_, _≤_, _<_}
+use Prim.Native.Nat.{ℕ, zero, suc, _+_, _-_, _*_, _≤_, _<_}
 use mathlib.Core.Path.{_≡_}
 use mathlib.Core.Bool.{true, false, cond}
 use mathlib.Core.List.{List, [], _∷_, _++_}
 use lib.Dec.{eqb}
-use lib.ListN.{length, getD, take}
+use lib.ListN.{length, getD, take, replicate}
 use Rattle.laws.specs.Sums.{total}
 use Rattle.words.specs.Outcome.{Outcome, refused, accepted, giving}
 use Rattle.words.specs.Stream.{stream}
@@ -91,6 +91,12 @@ NoMore ws o = (ps left : List ℕ) → o ≡ accepted ps left → length left �
 abbrev pub backOf : {A : Type 0} → Outcome A → ℕ → ℕ
 backOf (refused n) size = size
 backOf (accepted a left) size = 0
+
+-- scratch space for n weights, if these are not too many: for the positions and, all zeros, for the sums
+pub record Scratch (n : ℕ) (drawn sums : List ℕ) : Type 0 where
+  pub positions : n ≤ 4096 → n ≤ length drawn
+  pub nodes : n ≤ 4096 → 16 * treeSize n ≤ length sums
+  pub clear : sums ≡ replicate (length sums) 0
 
 -- the tree of all weights is built, and the first value drawn
 pub record Built (weights ws drawn list sums : List ℕ) (s : Drawing) : Type 0 where

@@ -8,13 +8,13 @@ use words::Words;
 ghost use Prim.Native.Nat.{_+_, _≤_};
 ghost use mathlib.Core.Path.{_≡_};
 ghost use mathlib.Core.List.{_++_};
-ghost use lib.ListN.{length, take, drop, replicate};
+ghost use lib.ListN.{length, take, drop};
 ghost use Rattle.laws.specs.Sums.{total};
 ghost use Rattle.refusals.specs.Refusals.{lowest};
 ghost use Rattle.words.specs.Stream.{stream};
 ghost use Rattle.shuffle_steps.specs.Order.{counts, counted, zerosOf};
 ghost use Rattle.shuffle_steps.specs.Calls.{shuffleChecks};
-ghost use Rattle.shuffle_steps.specs.Progress.{FromEnd, Built, Begun};
+ghost use Rattle.shuffle_steps.specs.Progress.{FromEnd, Scratch, Built, Begun};
 
 // What turns a call down, for n weights and so many places and nodes.
 fn shuffle_refusal(n: usize, room: usize, nodes: usize) -> Refusal
@@ -82,8 +82,7 @@ fn build(
     drawn: &mut [u64],
     sums: &mut [u64],
 ) -> Drawing
-    requires { ⌜ (length (now weights) ≤ 4096) × (4096 ≤ length (now drawn)) ⌝ }
-    requires { ⌜ now sums ≡ replicate 4368 0 ⌝ }
+    requires { ⌜ (length (now weights) ≤ 4096) × Scratch (length (now weights)) (now drawn) (now sums) ⌝ }
     ensures { λ r. ⌜ Built (now (weights .entry)) (stream (now (list .entry)) words) (now (drawn .exit)) (now (list .entry)) (now (sums .exit)) r ⌝ }
 {
     let n = weights.len();
@@ -116,7 +115,7 @@ pub fn begin(
     drawn: &mut [u64],
     sums: &mut [u64],
 ) -> Drawing
-    requires { ⌜ (4096 ≤ length (now drawn)) × (now sums ≡ replicate 4368 0) ⌝ }
+    requires { ⌜ Scratch (length (now weights)) (now drawn) (now sums) ⌝ }
     ensures { λ r. ⌜ Begun (now (weights .entry)) (drop cursor (now (list .entry))) room nodes (now (drawn .exit)) (now (list .entry)) (now (sums .exit)) r ⌝ }
 {
     let words = words::listed(list, cursor);

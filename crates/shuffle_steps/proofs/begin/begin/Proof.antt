@@ -24,7 +24,7 @@ build-requires c κs =
     let told = c .before .before in
     let f = told .before .before in
     let start = f .before .before .before .before .before .before in
-    ((fits _ _ _ (sym (f .shuffle-refusal .ensures) ∙ told .enum-told .given .1) .few, start .pre .0), start .pre .1)
+    (fits _ _ _ (sym (f .shuffle-refusal .ensures) ∙ told .enum-told .given .1) .few, start .pre)
 
 -- src/begin.rt:118:25
 enum-known-number : tie.Need-enum-known-number

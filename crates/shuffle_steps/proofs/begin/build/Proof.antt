@@ -16,7 +16,7 @@ sub-first : tie.Need-sub-first
 sub-first c =
     let g = c .before in
     let start = g .before .before .before .before .before in
-    some-nodes (now (start .args .weights)) (start .pre .0 .0) _ (g .get-num-nodes-and-tree-size .ensures)
+    some-nodes (now (start .args .weights)) (start .pre .0) _ (g .get-num-nodes-and-tree-size .ensures)
 
 -- src/begin.rt:85:9
 count-weights-requires : tie.Need-count-weights-requires
@@ -24,7 +24,7 @@ count-weights-requires c κs =
     let g = c .before .before in
     let start = g .before .before .before .before .before in
     let p = start .pre in
-    room-for-sums (now (start .args .weights)) (p .0 .0) _ (g .get-num-nodes-and-tree-size .ensures) _ (p .1)
+    room-for-sums (now (start .args .weights)) (p .0) _ (g .get-num-nodes-and-tree-size .ensures) (p .1)
 
 -- src/begin.rt:86:5
 list-zeros-requires : tie.Need-list-zeros-requires
@@ -33,7 +33,7 @@ list-zeros-requires c κs =
     let g = k .before .before .before in
     let start = g .before .before .before .before .before in
     let p = start .pre in
-    (laid-room (now (start .args .weights)) (p .0 .0) _ (g .get-num-nodes-and-tree-size .ensures) (p .1) (k .count-weights .ensures .1), omega (arith, p .0 .0, p .0 .1))
+    (laid-room (now (start .args .weights)) (p .0) _ (g .get-num-nodes-and-tree-size .ensures) (p .1) (k .count-weights .ensures .1), p .1 .positions (p .0))
 
 -- src/begin.rt:87:5
 sum-levels-requires : tie.Need-sum-levels-requires
@@ -42,7 +42,7 @@ sum-levels-requires c κs =
     let g = k .before .before .before in
     let start = g .before .before .before .before .before in
     let p = start .pre in
-    laid-lowest (now (start .args .weights)) (p .0 .0) _ (g .get-num-nodes-and-tree-size .ensures) (p .1) (k .count-weights .ensures .1)
+    laid-lowest (now (start .args .weights)) (p .0) _ (g .get-num-nodes-and-tree-size .ensures) (p .1) (k .count-weights .ensures .1)
 
 -- src/begin.rt:99:5
 draw-value-requires : tie.Need-draw-value-requires
@@ -65,7 +65,7 @@ returns c =
     let g = k .before .before .before in
     let start = g .before .before .before .before .before in
     let p = start .pre in
-    built (now (start .args .weights)) (p .0 .0) _ (g .get-num-nodes-and-tree-size .ensures) (p .1) (k .count-weights .ensures .1) _ (c .draw-value .ensures) refl refl refl (k .count-weights .ensures .0) refl refl (omega (arith, p .0 .0, p .0 .1, z .list-zeros .kept .1 .1 .1 .0)) (z .list-zeros .ensures) (l .sum-levels .ensures)
+    built (now (start .args .weights)) (p .0) _ (g .get-num-nodes-and-tree-size .ensures) (p .1) (k .count-weights .ensures .1) _ (c .draw-value .ensures) refl refl refl (k .count-weights .ensures .0) refl refl (omega (arith, p .1 .positions (p .0), z .list-zeros .kept .1 .1 .1 .0)) (z .list-zeros .ensures) (l .sum-levels .ensures)
 
 pub build-spec : {M : Type 1} → statement M
 build-spec =
