@@ -11,10 +11,42 @@ ghost use Rattle.words.specs.Outcome.{bufferAfter};
 ghost use Rattle.tree.specs.Sizes.{sizes};
 ghost use Rattle.shuffle_steps.specs.Calls.{shuffled};
 ghost use Rattle.shuffle_steps.specs.Answers.{shuffleAnswer};
+ghost use Rattle.shuffle_steps.specs.Progress.{Scratch};
 ghost use Rattle.weighted_shuffle.specs.Calls.{nodesAfter};
 
-// The order, written to the front of `order`. The tree stands in the first nodes while the positions are drawn: what they held is
-// kept beside it, and put back where the call is refused.
+// The order, in scratch space for the positions and, all zeros, for the sums. The tree stands in the first nodes while the positions
+// are drawn: what they held is kept beside it, and put back where the call is refused.
+fn shuffle_in(
+    weights: &[u64],
+    list: &[u64],
+    cursor: usize,
+    order: &mut [u64],
+    nodes: &mut [Node],
+    drawn: &mut [u64],
+    sums: &mut [u64],
+) -> ShuffleAnswer
+    requires { ⌜ Scratch (length (now weights)) (now drawn) (now sums) ⌝ }
+    ensures { λ r. ⌜ r ≡ shuffleAnswer (drop cursor (now (list .entry))) (shuffled (now (weights .entry)) (length (now (order .entry))) (length (now (nodes .entry))) (drop cursor (now (list .entry)))) ⌝ }
+    ensures { λ _. ⌜ now (order .exit) ≡ bufferAfter (shuffled (now (weights .entry)) (length (now (order .entry))) (length (now (nodes .entry))) (drop cursor (now (list .entry)))) (λ ps. ps) (now (order .entry)) ⌝ }
+    ensures { λ _. ⌜ now (nodes .exit) ≡ nodesAfter (shuffled (now (weights .entry)) (length (now (order .entry))) (length (now (nodes .entry))) (drop cursor (now (list .entry)))) (sizes (length (now (weights .entry))) .«tree_size») (now (nodes .entry)) ⌝ }
+{
+    let begun = begin::begin(
+        weights,
+        list,
+        cursor,
+        order.len(),
+        nodes.len(),
+        drawn,
+        sums,
+    );
+    exchange::exchange(nodes, sums, begun.size);
+    let done = draw::draw_all(nodes, list, drawn, begun);
+    let ended = finish::finish(list, cursor, order, drawn, done);
+    exchange::exchange(nodes, sums, ended.back);
+    ended.answer
+}
+
+// The order, written to the front of `order`. Scratch space is as long as the list asks.
 pub fn shuffle(
     weights: &[u64],
     list: &[u64],
@@ -26,20 +58,12 @@ pub fn shuffle(
     ensures { λ _. ⌜ now (order .exit) ≡ bufferAfter (shuffled (now (weights .entry)) (length (now (order .entry))) (length (now (nodes .entry))) (drop cursor (now (list .entry)))) (λ ps. ps) (now (order .entry)) ⌝ }
     ensures { λ _. ⌜ now (nodes .exit) ≡ nodesAfter (shuffled (now (weights .entry)) (length (now (order .entry))) (length (now (nodes .entry))) (drop cursor (now (list .entry)))) (sizes (length (now (weights .entry))) .«tree_size») (now (nodes .entry)) ⌝ }
 {
+    if weights.len() <= 256 {
+        let mut drawn = [0u64; 256];
+        let mut sums = [0u64; 272];
+        return shuffle_in(weights, list, cursor, order, nodes, &mut drawn, &mut sums);
+    }
     let mut drawn = [0u64; 4096];
     let mut sums = [0u64; 4368];
-    let begun = begin::begin(
-        weights,
-        list,
-        cursor,
-        order.len(),
-        nodes.len(),
-        &mut drawn,
-        &mut sums,
-    );
-    exchange::exchange(nodes, &mut sums, begun.size);
-    let done = draw::draw_all(nodes, list, &mut drawn, begun);
-    let ended = finish::finish(list, cursor, order, &mut drawn, done);
-    exchange::exchange(nodes, &mut sums, ended.back);
-    ended.answer
+    shuffle_in(weights, list, cursor, order, nodes, &mut drawn, &mut sums)
 }
