@@ -4,33 +4,60 @@ use mathlib.Core.Path.{_≡_, refl, sym, ap, ap₂, _∙_}
 use mathlib.Core.Bool.{Bool, true, false, cond}
 use mathlib.Core.List.{List, _++_}
 use native.Mathlib.Omega.{arith}
-use lib.Dec.{eqb}
-use lib.ListN.{length, take, drop, replicate, length-append, take-append-drop}
+use lib.Dec.{eqb, leb}
+use lib.ListN.{length, take, drop, replicate, length-append, length-replicate, take-append-drop}
 use lib.Seq.{drop-at, length-take-le}
-use borrow.Author.Tests.{eqb-true}
+use borrow.Author.Tests.{eqb-true, le-leb}
 use Rattle.laws.specs.Sums.{total}
 use Rattle.refusals.specs.declared.Refusal.{Refusal}
 use Rattle.refusals.specs.declared.Refusal.the-variants.{None, Number}
 use Rattle.refusals.specs.Refusals.{lowest}
-use Rattle.words.specs.Outcome.{Outcome, refused, accepted, unless}
+use Rattle.words.specs.Outcome.{Outcome, refused, accepted, unless, bufferAfter}
 use Rattle.words.proofs.Outcomes.{NoLonger, refused-no-longer}
 use Rattle.words.specs.Stream.{stream}
 use Rattle.nodes.specs.declared.node.Node.{Node}
 use Rattle.nodes.specs.Node.{zeroNode}
 use Rattle.nodes.specs.Run.{cut, flat, Full}
 use Rattle.nodes.proofs.RunLaws.{cut-flat}
-use Rattle.tree.specs.Sizes.{sizes, treeSize}
+use Rattle.tree.specs.Sizes.{rows, sizes, above, deep, treeSize}
 use Rattle.tree.specs.Levels.{sumsOf, treeOf}
 use Rattle.tree.proofs.CutLaws.{cut-front}
 use Rattle.tree.proofs.Laws.{sums-long, tree-long, tree-none}
+use Rattle.shuffle_steps.specs.declared.answers.ShuffleAnswer.{ShuffleAnswer}
 use Rattle.shuffle_steps.specs.declared.drawing.Drawing.{Drawing}
 use Rattle.shuffle_steps.specs.Order.{whole, order}
 use Rattle.shuffle_steps.specs.Calls.{shuffleChecks, shuffled}
+use Rattle.shuffle_steps.specs.Answers.{shuffleAnswer}
 use Rattle.shuffle_steps.proofs.OrderLaws.{steps-no-longer}
-use Rattle.shuffle_steps.specs.Progress.{Progress, Begun, zerosDrawn, ending, NoMore, backOf}
+use Rattle.shuffle_steps.specs.Progress.{Progress, Scratch, Begun, zerosDrawn, ending, NoMore, backOf}
 use Rattle.shuffle_steps.proofs.ProgressLaws.{progress-ending}
 use Rattle.weighted_shuffle.specs.Calls.{nodesAfter}
 use Rattle.weighted_shuffle.specs.Going.{Going, Started, Drew}
+
+-- the answer of a shuffle, and the last states of its buffers
+pub record Last (weights list : List ℕ) (cursor : ℕ) (order : List ℕ) (nodes : List Node) (nodes′ : List Node) (order′ : List ℕ) (r : ShuffleAnswer) : Type 0 where
+  pub nodes-long : length nodes′ ≡ length nodes
+  pub order-long : length order′ ≡ length order
+  pub answer-is : r ≡ shuffleAnswer (drop cursor list) (shuffled weights (length order) (length nodes) (drop cursor list))
+  pub order-is : order′ ≡ bufferAfter (shuffled weights (length order) (length nodes) (drop cursor list)) (λ ps. ps) order
+  pub nodes-are : nodes′ ≡ nodesAfter (shuffled weights (length order) (length nodes) (drop cursor list)) (sizes (length weights) .«tree_size») nodes
+
+-- arrays of zeros that are long enough for n weights
+pub zeros-scratch : (n d s : ℕ) → (n ≤ 4096 → n ≤ d) → (n ≤ 4096 → 16 * treeSize n ≤ s) → Scratch n (replicate d 0) (replicate s 0)
+zeros-scratch n d s h g = record {
+  positions = λ few. omega (arith, h few, length-replicate {A = ℕ} d 0);
+  nodes = λ few. omega (arith, g few, length-replicate {A = ℕ} s 0);
+  clear = ap (λ (k : ℕ). replicate k 0) (sym (length-replicate {A = ℕ} s 0));
+}
+
+-- up to 256 weights stand below one node
+pub size-shallow : (n : ℕ) → n ≤ 256 → treeSize n ≤ 1 + rows n
+unfolding deep
+size-shallow n h = rw (le-leb n 256 h) (go (leb n 16))
+  where
+    go : (b : Bool) → above (cond b 0 1) + rows n ≤ 1 + rows n
+    go true = omega arith
+    go false = omega arith
 
 -- no more words are left than there were
 pub shuffled-no-longer : (weights : List ℕ) (room nodes : ℕ) (ws : List ℕ) → NoLonger ws (shuffled weights room nodes ws)

@@ -58,7 +58,7 @@ use Rattle.shuffle_steps.specs.Answers.{shuffleAnswer}
 use Rattle.shuffle_steps.specs.Progress.{Scratch, Begun, ending, backOf}
 use Rattle.weighted_shuffle.specs.Calls.{nodesAfter}
 use Rattle.weighted_shuffle.specs.Going.{Drew}
-use Rattle.weighted_shuffle.proofs.ShuffleLaws.{begun-asks, begun-started, drew-asks, drew-ending, drew-back, drew-nodes}
+use Rattle.weighted_shuffle.proofs.ShuffleLaws.{Last, begun-asks, begun-started, drew-asks, drew-ending, drew-back, drew-nodes}
 use Rattle.shuffle_steps.proofs.answers.ShuffleAnswer as S
 use Rattle.shuffle_steps.proofs.answers.ShuffleAnswer.Laws as S′
 use Rattle.shuffle_steps.proofs.drawing.Drawing as D
@@ -162,15 +162,7 @@ module _ {M : Type 1} (𝓤 : URA M) (H : Heap 𝓤) (A : Atoms 𝓤) (W : Given
   abbrev outcome : Outcome (List ℕ)
   outcome = shuffled weights (length order) (length ys) (drop cursor list)
 
-  -- the last states of the buffers, and the answer
-  record Last (zs : List Node) (ord : List ℕ) (r : ShuffleAnswer) : Type 0 where
-    nodes-long : length zs ≡ length ys
-    order-long : length ord ≡ length order
-    answer-is : r ≡ shuffleAnswer (drop cursor list) outcome
-    order-is : ord ≡ bufferAfter outcome (λ ps. ps) order
-    nodes-are : zs ≡ nodesAfter outcome (sizes (length weights) .«tree_size») ys
-
-  exits : (zs : List Node) (ss ord ds : List ℕ) (r : ShuffleAnswer) (v : Val) → Is S.the-row r (v ∷ []) → Last zs ord r → length ss ≡ length sums → length ds ≡ length drawn → ent 𝓤 (⋆ 𝓤 H A (Own₄ zs ∷ ‵ (flft κ₄ q₄) ∷ Own₆ ss ∷ ‵ (flft κ₆ q₆) ∷ Own₃ ord ∷ ‵ (flft κ₃ q₃) ∷ Own₅ ds ∷ ‵ (flft κ₅ q₅) ∷ Own₂ ∷ ‵ (flft κ₂ q₂) ∷ Own₁ ∷ ‵ (flft κ₁ q₁) ∷ [])) (Post v)
+  exits : (zs : List Node) (ss ord ds : List ℕ) (r : ShuffleAnswer) (v : Val) → Is S.the-row r (v ∷ []) → Last weights list cursor order ys zs ord r → length ss ≡ length sums → length ds ≡ length drawn → ent 𝓤 (⋆ 𝓤 H A (Own₄ zs ∷ ‵ (flft κ₄ q₄) ∷ Own₆ ss ∷ ‵ (flft κ₆ q₆) ∷ Own₃ ord ∷ ‵ (flft κ₃ q₃) ∷ Own₅ ds ∷ ‵ (flft κ₅ q₅) ∷ Own₂ ∷ ‵ (flft κ₂ q₂) ∷ Own₁ ∷ ‵ (flft κ₁ q₁) ∷ [])) (Post v)
   exits zs ss ord ds r v is l ss-long ds-long =
       qed W (Own₄ zs ∷ ‵ (flft κ₄ q₄) ∷ Own₆ ss ∷ ‵ (flft κ₆ q₆) ∷ Own₃ ord ∷ ‵ (flft κ₃ q₃) ∷ Own₅ ds ∷ ‵ (flft κ₅ q₅) ∷ Own₂ ∷ ‵ (flft κ₂ q₂) ∷ Own₁ ∷ ‵ (flft κ₁ q₁) ∷ []) ∵
       suffices ! _ (ends-at 𝓤 H A shuffle-in.ended stayed (shuffle-in.clauses 𝓤 H A mem run) W (((κ₁, (κ₂, (κ₃, (κ₄, (κ₅, (κ₆, tt)))))), (q₁, (q₂, (q₃, (q₄, (q₅, (q₆, tt)))))), tt, a, at), tt) v r (tt, (tt, (tt, (ord, (zs, (ds, (ss, tt))))))) (tt, (tt, (tt, (l .order-long, (l .nodes-long, (ds-long, (ss-long, tt)))))))) $ says-three ! (l .answer-is) (l .order-is) (l .nodes-are) $
@@ -195,7 +187,7 @@ module _ {M : Type 1} (𝓤 : URA M) (H : Heap 𝓤) (A : Atoms 𝓤) (W : Given
         (omega (arith, h .0, is, zs-long), omega (arith, h .1, is, left-long))
 
     last : Full (take (s .size) ys) → (e : Ended) (ord : List ℕ) → e .answer ≡ shuffleAnswer (drop cursor list) (ending list ds′ r) → e .back ≡ backOf (ending list ds′ r) (r .size) → ord ≡ bufferAfter (ending list ds′ r) (λ ps. ps) order → length ord ≡ length order
-        → length (cut (e .back) (left s ss) ++ drop (e .back) zs) ≡ length ys → Last (cut (e .back) (left s ss) ++ drop (e .back) zs) ord (e .answer)
+        → length (cut (e .back) (left s ss) ++ drop (e .back) zs) ≡ length ys → Last weights list cursor order ys (cut (e .back) (left s ss) ++ drop (e .back) zs) ord (e .answer)
     last full e ord e₁ e₂ e₃ ord-long n-long = record {
       nodes-long = n-long;
       order-long = ord-long;
@@ -255,12 +247,12 @@ module _ {M : Type 1} (𝓤 : URA M) (H : Heap 𝓤) (A : Atoms 𝓤) (W : Given
       At zs ss ord ds mid = Own₄ zs ∷ ‵ (flft κ₄ q₄) ∷ Own₆ ss ∷ ‵ (flft κ₆ q₆) ∷ Own₃ ord ∷ ‵ (flft κ₃ q₃) ∷ Own₅ ds ∷ ‵ (flft κ₅ q₅) ∷ Own₂ ∷ ‵ (flft κ₂ q₂) ∷ Own₁ ∷ ‵ (flft κ₁ q₁) ∷ temps (mid kept)
 
       -- the locals are freed
-      frees-all : (zs : List Node) (ss ord ds : List ℕ) (r : ShuffleAnswer) (v : Val) → Is S.the-row r (v ∷ []) → Last zs ord r → length ss ≡ length sums → length ds ≡ length drawn
+      frees-all : (zs : List Node) (ss ord ds : List ℕ) (r : ShuffleAnswer) (v : Val) → Is S.the-row r (v ∷ []) → Last weights list cursor order ys zs ord r → length ss ≡ length sums → length ds ≡ length drawn
           → Sq W (vacant S′.mir l₀ (vacant param₁ l₁ (vacant param₂ l₂ (vacant word l₃ (vacant param₃ l₄ (vacant param₄ l₅ (vacant param₅ l₆ (vacant param₆ l₇ (vacant D′.mir l₈ (vacant D′.mir l₉ (vacant E′.mir l₁₀ (vacant word l₁₁ (vacant word l₁₂ (vacant refW l₁₃ (vacant (sliceTy refW) l₁₄ (vacant refW l₁₅ (vacant (sliceTy refW) l₁₆ (vacant tyUnit l₁₇ (vacant refN l₁₈ (vacant (sliceTy refN) l₁₉ (vacant refW l₂₀ (vacant (sliceTy refW) l₂₁ (vacant refN l₂₂ (vacant (sliceTy refN) l₂₃ (vacant refW l₂₄ (vacant (sliceTy refW) l₂₅ (vacant refW l₂₆ (vacant (sliceTy refW) l₂₇ (vacant refW l₂₈ (vacant (sliceTy refW) l₂₉ (vacant refN l₃₀ (vacant (sliceTy refN) l₃₁ (vacant refW l₃₂ (vacant (sliceTy refW) l₃₃ (Own₄ zs ∷ ‵ (flft κ₄ q₄) ∷ Own₆ ss ∷ ‵ (flft κ₆ q₆) ∷ Own₃ ord ∷ ‵ (flft κ₃ q₃) ∷ Own₅ ds ∷ ‵ (flft κ₅ q₅) ∷ Own₂ ∷ ‵ (flft κ₂ q₂) ∷ Own₁ ∷ ‵ (flft κ₁ q₁) ∷ []))))))))))))))))))))))))))))))))))) (frees En (prop (Post v)))
       frees-all zs ss ord ds r v is l ss-long ds-long = free1 ! $ free1 ! $ free1 ! $ free1 ! $ free1 ! $ free1 ! $ free1 ! $ free1 ! $ free1 ! $ free1 ! $ free1 ! $ free1 ! $ free1 ! $ free1 ! $ free1 ! $ free1 ! $ free1 ! $ free1 ! $ free1 ! $ free1 ! $ free1 ! $ free1 ! $ free1 ! $ free1 ! $ free1 ! $ free1 ! $ free1 ! $ free1 ! $ free1 ! $ free1 ! $ free1 ! $ free1 ! $ free1 ! $ free1 ! $ free0 ! $ by ! (exits zs ss ord ds r v is l ss-long ds-long)
 
       -- the nodes get back what they held, and the arrays end
-      puts-back : (zs : List Node) (ss ord ds : List ℕ) (e : Ended) → Ends e → length zs ≡ length ys → length ss ≡ length sums → length ds ≡ length drawn → e .back ≤ length ys → 16 * e .back ≤ length sums → (length (cut (e .back) ss ++ drop (e .back) zs) ≡ length ys → Last (cut (e .back) ss ++ drop (e .back) zs) ord (e .answer))
+      puts-back : (zs : List Node) (ss ord ds : List ℕ) (e : Ended) → Ends e → length zs ≡ length ys → length ss ≡ length sums → length ds ≡ length drawn → e .back ≤ length ys → 16 * e .back ≤ length sums → (length (cut (e .back) ss ++ drop (e .back) zs) ≡ length ys → Last weights list cursor order ys (cut (e .back) ss ++ drop (e .back) zs) ord (e .answer))
           → Sq W (At zs ss ord ds (λ Γ. holds E′.mir l₁₀ (end-val e) (vacant D′.mir l₉ (vacant D′.mir l₈ Γ)))) (runs C Λ En mir.t-23 (atRet En Post))
       puts-back zs ss ord ds e has zs-long ss-long ds-long short wide ends =
           assigns ! (addr ! (from ! (fld ! refl (hop ! (look-in ! 68 (sub ! 0 refl (whole !))) (stop !))))) (from ! (stop !)) (init ! 18 refl (tt, tt)) $
