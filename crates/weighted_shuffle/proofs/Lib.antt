@@ -3,4 +3,5 @@ pub mod WholeLaws
 pub mod ShuffleLaws
 pub mod DrawCalls
 pub mod ShuffleCalls
+pub mod ShuffleInCalls
 pub mod EntryCalls

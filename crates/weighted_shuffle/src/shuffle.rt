@@ -16,7 +16,7 @@ ghost use Rattle.weighted_shuffle.specs.Calls.{nodesAfter};
 
 // The order, in scratch space for the positions and, all zeros, for the sums. The tree stands in the first nodes while the positions
 // are drawn: what they held is kept beside it, and put back where the call is refused.
-fn shuffle_in(
+pub fn shuffle_in(
     weights: &[u64],
     list: &[u64],
     cursor: usize,
