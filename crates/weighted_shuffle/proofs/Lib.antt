@@ -4,4 +4,5 @@ pub mod ShuffleLaws
 pub mod DrawCalls
 pub mod ShuffleCalls
 pub mod ShuffleInCalls
+pub mod SizeWalk
 pub mod EntryCalls
