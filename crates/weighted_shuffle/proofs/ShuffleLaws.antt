@@ -50,7 +50,16 @@ zeros-scratch n d s h g = record {
   clear = ap (λ (k : ℕ). replicate k 0) (sym (length-replicate {A = ℕ} s 0));
 }
 
--- up to 256 weights stand below one node
+-- at most 17 nodes stand above the lowest level, and above that of up to 256 weights one
+pub size-any : (n : ℕ) → treeSize n ≤ 17 + rows n
+unfolding deep
+size-any n = go (leb n 16) (leb n 256)
+  where
+    go : (b c : Bool) → above (cond b 0 (cond c 1 2)) + rows n ≤ 17 + rows n
+    go true c = omega arith
+    go false true = omega arith
+    go false false = omega arith
+
 pub size-shallow : (n : ℕ) → n ≤ 256 → treeSize n ≤ 1 + rows n
 unfolding deep
 size-shallow n h = rw (le-leb n 256 h) (go (leb n 16))

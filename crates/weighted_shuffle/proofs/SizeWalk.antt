@@ -30,6 +30,7 @@ use denote.Enum.Laws as EL
 use denote.Triple.Statement.{Triple}
 use Rattle.nodes.specs.declared.node.Node.{Node}
 use Rattle.nodes.proofs.node.Node as N
+use Rattle.nodes.proofs.node.Node.Laws as N′
 use Rattle.nodes.proofs.Cells.{holds, vacant}
 use Rattle.nodes.proofs.CallLent.{Owns, Sees}
 use Rattle.nodes.proofs.LocalArray.{words, zeros-typed, lends-local, ends-local}
@@ -72,7 +73,7 @@ abbrev pub part : (n m : ℕ) (x y : Operand) (a t : ℕ) → Body
 part n m x y a t =
     seq (assign (place a []) (repeat (int w64 0) n)) (seq (assign (place (a + 1) []) (repeat (int w64 0) m))
     (seq (assign (place t []) (addrOf (place 4 (field 0 ∷ deref word ∷ [])))) (seq (assign (place (t + 1) []) (aggregate (here t ∷ copy (place 4 (field 1 ∷ [])) ∷ [])))
-    (seq (assign (place (t + 2) []) (addrOf (place 5 (field 0 ∷ deref node ∷ [])))) (seq (assign (place (t + 3) []) (aggregate (here (t + 2) ∷ copy (place 5 (field 1 ∷ [])) ∷ [])))
+    (seq (assign (place (t + 2) []) (addrOf (place 5 (field 0 ∷ deref N′.mir ∷ [])))) (seq (assign (place (t + 3) []) (aggregate (here (t + 2) ∷ copy (place 5 (field 1 ∷ [])) ∷ [])))
     (seq (assign (place (t + 4) []) (addrOf (place a []))) (seq (assign (place (t + 5) []) (aggregate (here (t + 4) ∷ x ∷ [])))
     (seq (assign (place (t + 6) []) (addrOf (place (a + 1) []))) (seq (assign (place (t + 7) []) (aggregate (here (t + 6) ∷ y ∷ [])))
     (seq (call #weighted-shuffle·shuffle-in (here 1 ∷ here 2 ∷ here 3 ∷ here (t + 1) ∷ here (t + 3) ∷ here (t + 5) ∷ here (t + 7) ∷ []) (place 0 [])) return))))))))))
@@ -121,7 +122,7 @@ module _ {M : Type 1} (𝓤 : URA M) (H : Heap 𝓤) (κ₁ κ₂ κ₃ κ₄ : 
   abbrev pub after : List (Item 𝓤) → List (Item 𝓤)
   after Γ = vacant param₄ l₅ (vacant param₃ l₄ (vacant word l₃ (vacant param₂ l₂ (vacant param₁ l₁ (vacant S′.mir l₀ Γ)))))
 
-  module _ (A : Atoms 𝓤) (W : Given 𝓤 H A) (mem : Memory → SProp 𝓤) (run : Routine → Fun 𝓤) (C : Calls 𝓤 H) (fm : FmC 𝓤 H (W .laws) C) (known : Triple 𝓤 (C #weighted-shuffle·shuffle-in) (ShuffleIn 𝓤 H A mem run)) {Λ : Loops 𝓤 H} {Γ : List (Item 𝓤)} {q : Post 𝓤 H} {x y : Operand} where
+  module _ (A : Atoms 𝓤) (W : Given 𝓤 H A) (mem : Memory → SProp 𝓤) (run : Routine → Fun 𝓤) (C : Calls 𝓤 H) (fm : FmC 𝓤 H (W .laws) C) (known : Triple 𝓤 (C #weighted-shuffle·shuffle-in) (ShuffleIn 𝓤 H A mem run)) {Λ : Loops 𝓤 H} {Γ : List (Item 𝓤)} {q : Post 𝓤 H} (x y : Operand) where
     pub walks : Types 𝓤 H E n m a t → Room u64 n → Room u64 m → Room u64 (length order) → Room N.the-row (length nodes) → cursor < 2 ^ 64
         → ((Γ′ : List (Item 𝓤)) → Opd (Go {0}) W Γ′ E x (vint w64 n)) → ((Γ′ : List (Item 𝓤)) → Opd (Go {0}) W Γ′ E y (vint w64 m)) → Scratch (length weights) (replicate n 0) (replicate m 0) → (Kf : Val → SProp 𝓤) → post 𝓤 H q returned ≡ atReturn 𝓤 H E Kf returned
         → ((r : ShuffleAnswer) (ord : List ℕ) (zs : List Node) (u : Val) → Last weights list cursor order nodes zs ord r → Is S.the-row r (u ∷ []) → Sq W (At ord zs (after Γ)) (frees E (prop (Kf u))))

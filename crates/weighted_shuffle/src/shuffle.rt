@@ -58,9 +58,15 @@ pub fn shuffle(
     ensures { λ _. ⌜ now (order .exit) ≡ bufferAfter (shuffled (now (weights .entry)) (length (now (order .entry))) (length (now (nodes .entry))) (drop cursor (now (list .entry)))) (λ ps. ps) (now (order .entry)) ⌝ }
     ensures { λ _. ⌜ now (nodes .exit) ≡ nodesAfter (shuffled (now (weights .entry)) (length (now (order .entry))) (length (now (nodes .entry))) (drop cursor (now (list .entry)))) (sizes (length (now (weights .entry))) .«tree_size») (now (nodes .entry)) ⌝ }
 {
-    if weights.len() <= 256 {
-        let mut drawn = [0u64; 256];
-        let mut sums = [0u64; 272];
+    let n = weights.len();
+    if n <= 64 {
+        let mut drawn = [0u64; 64];
+        let mut sums = [0u64; 80];
+        return shuffle_in(weights, list, cursor, order, nodes, &mut drawn, &mut sums);
+    }
+    if n <= 1024 {
+        let mut drawn = [0u64; 1024];
+        let mut sums = [0u64; 1296];
         return shuffle_in(weights, list, cursor, order, nodes, &mut drawn, &mut sums);
     }
     let mut drawn = [0u64; 4096];
