@@ -30,15 +30,7 @@ pub fn shuffle_in(
     ensures { λ _. ⌜ now (order .exit) ≡ bufferAfter (shuffled (now (weights .entry)) (length (now (order .entry))) (length (now (nodes .entry))) (drop cursor (now (list .entry)))) (λ ps. ps) (now (order .entry)) ⌝ }
     ensures { λ _. ⌜ now (nodes .exit) ≡ nodesAfter (shuffled (now (weights .entry)) (length (now (order .entry))) (length (now (nodes .entry))) (drop cursor (now (list .entry)))) (sizes (length (now (weights .entry))) .«tree_size») (now (nodes .entry)) ⌝ }
 {
-    let begun = begin::begin(
-        weights,
-        list,
-        cursor,
-        order.len(),
-        nodes.len(),
-        drawn,
-        sums,
-    );
+    let begun = begin::begin(weights, list, cursor, order.len(), nodes.len(), drawn, sums);
     exchange::exchange(nodes, sums, begun.size);
     let done = draw::draw_all(nodes, list, drawn, begun);
     let ended = finish::finish(list, cursor, order, drawn, done);
@@ -46,7 +38,7 @@ pub fn shuffle_in(
     ended.answer
 }
 
-// The order, written to the front of `order`. Scratch space is as long as the list asks.
+// The order, written to the front of `order`. Scratch space is cleared before use, so a shorter list is given less of it.
 pub fn shuffle(
     weights: &[u64],
     list: &[u64],

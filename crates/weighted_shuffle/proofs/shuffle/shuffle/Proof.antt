@@ -1,6 +1,6 @@
 -- `weighted_shuffle::shuffle::shuffle` meets its contract: a walk of its MIR, by hand. It chooses the size of scratch space by the number of weights; the walk of one size is in `SizeWalk.antt`, and that the space is enough for that many weights is in `ShuffleLaws.antt`.
 -- Assumes nothing.
-use mathlib.Core.Path.{_≡_, refl}
+use mathlib.Core.Path.{refl}
 use Prim.Native.Nat.{ℕ, _≤_, _<_, _^_}
 use native.Mathlib.Omega.{arith}
 use mathlib.Core.Bool.{Bool}

@@ -49,14 +49,12 @@ use Rattle.nodes.proofs.ExchangeCalls.{Exchange, calls-exchange}
 use Rattle.nodes.proofs.exchange.exchange.Symbol as exchange-def
 use Rattle.nodes.proofs.exchange.exchange.Symbol.{name as #nodes·exchange}
 use Rattle.nodes.proofs.exchange.exchange.Met as exchange-thm
-use Rattle.tree.specs.Sizes.{sizes}
 use Rattle.shuffle_steps.specs.declared.answers.ShuffleAnswer.{ShuffleAnswer}
 use Rattle.shuffle_steps.specs.declared.drawing.Drawing.{Drawing}
 use Rattle.shuffle_steps.specs.declared.drawing.Ended.{Ended}
 use Rattle.shuffle_steps.specs.Calls.{shuffled}
 use Rattle.shuffle_steps.specs.Answers.{shuffleAnswer}
 use Rattle.shuffle_steps.specs.Progress.{Scratch, Begun, ending, backOf}
-use Rattle.weighted_shuffle.specs.Calls.{nodesAfter}
 use Rattle.weighted_shuffle.specs.Going.{Drew}
 use Rattle.weighted_shuffle.proofs.ShuffleLaws.{Last, begun-asks, begun-started, drew-asks, drew-ending, drew-back, drew-nodes}
 use Rattle.shuffle_steps.proofs.answers.ShuffleAnswer as S
