@@ -1,10 +1,15 @@
 -- Laws of building: the sums of the tree of all weights, and the state before the first position.
 use Prim.Native.Nat.{ℕ, suc, _+_, _-_, _*_, _≤_, _<_}
 use mathlib.Core.Path.{_≡_, refl, sym, ap, ap₂, _∙_}
+use mathlib.Core.Bool.{Bool, true, false, cond}
+use mathlib.Core.Logic.{⊎-elim}
 use mathlib.Core.List.{List, [], _++_}
 use native.Mathlib.Omega.{arith}
+use lib.Dec.{leb}
 use lib.ListN.{length, take, drop, replicate, length-append, length-replicate, replicate-append-replicate}
 use lib.Seq.{take-at, drop-at, take-append-add}
+use borrow.Author.Tests.{le-leb}
+use Rattle.laws.proofs.Numbers.{split}
 use Rattle.laws.specs.Sums.{total}
 use Rattle.words.specs.Outcome.{Outcome, refused, accepted, giving}
 use Rattle.words.specs.Stream.{stream}
@@ -30,6 +35,28 @@ module _ (k m : ℕ) (h : k ≤ m) where
 
   drop-zeros : _≡_ {A = List ℕ} (drop k (replicate m 0)) (replicate (m - k) 0)
   drop-zeros = ap (drop k) zeros-cut ∙ drop-at (replicate k 0) (replicate (m - k) 0) k (length-replicate k 0)
+
+-- the sums of the tree have room
+module _ (n : ℕ) {drawn sums : List ℕ} (s : Scratch n drawn sums) (few : n ≤ 4096) where
+  size-any : treeSize n ≤ 17 + rows n
+  unfolding deep
+  size-any = go (leb n 16) (leb n 256)
+    where
+      go : (b c : Bool) → above (cond b 0 (cond c 1 2)) + rows n ≤ 17 + rows n
+      go true c = omega arith
+      go false true = omega arith
+      go false false = omega arith
+
+  size-shallow : n ≤ 256 → treeSize n ≤ 1 + rows n
+  unfolding deep
+  size-shallow h = rw (le-leb n 256 h) (go (leb n 16))
+    where
+      go : (b : Bool) → above (cond b 0 1) + rows n ≤ 1 + rows n
+      go true = omega arith
+      go false = omega arith
+
+  enough : 16 * treeSize n ≤ length sums
+  enough = ⊎-elim (λ (h : 256 < n). omega (arith, s .full few h, size-any)) (λ (h : n ≤ 256). omega (arith, s .shallow h, size-shallow h)) (split 256 n)
 
 giving-none : (o : Outcome (List ℕ)) → o ≡ giving (λ ps. [] ++ ps) o
 giving-none (refused n) = refl
@@ -61,7 +88,7 @@ module _ (ws : List ℕ) (few : length ws ≤ 4096) (s : Sizes) (sized : s ≡ s
   some-nodes = omega (arith, nodes-are)
 
   pub room-for-sums : {drawn sums : List ℕ} → Scratch n drawn sums → first + n ≤ length sums
-  room-for-sums s₀ = omega (arith, first-is, s₀ .nodes few)
+  room-for-sums s₀ = omega (arith, first-is, enough n s₀ few)
 
   module _ {drawn₀ sums₀ sums₁ : List ℕ} (s₀ : Scratch n drawn₀ sums₀) (laid : sums₁ ≡ take first sums₀ ++ (C ++ drop (first + n) sums₀)) where
     abbrev m : ℕ
@@ -100,13 +127,13 @@ module _ (ws : List ℕ) (few : length ws ≤ 4096) (s : Sizes) (sized : s ≡ s
         let e : 16 * rows n ≡ length C + (16 * rows n - n) = omega (arith, long) in
         ap₂ (λ (k : ℕ) (us : List ℕ). take k us) e (ap (λ (k : ℕ). drop k sums₁) (sym first-is) ∙ behind)
         ∙ take-append-add C Z (16 * rows n - n)
-        ∙ ap (λ (us : List ℕ). C ++ us) (take-zeros (16 * rows n - n) (m - (first + n)) (omega (arith, first-is, s₀ .nodes few)))
+        ∙ ap (λ (us : List ℕ). C ++ us) (take-zeros (16 * rows n - n) (m - (first + n)) (omega (arith, first-is, enough n s₀ few)))
         ∙ ap (λ (k : ℕ). C ++ replicate (16 * rows k - k) 0) (sym long)
 
     pub laid-lowest : Lowest n sums₁
     laid-lowest = record {
       few = few;
-      room = omega (arith, laid-long, s₀ .nodes few);
+      room = omega (arith, laid-long, enough n s₀ few);
       clear = ap (λ (k : ℕ). take k sums₁) (sym first-is) ∙ ap (take first) laid-is ∙ take-at (replicate first 0) (C ++ Z) first (length-replicate first 0) ∙ ap (λ (k : ℕ). replicate k 0) first-is;
       fits = omega (arith, ap total row, padded-total C, counted-fits 0 ws (omega arith));
     }

@@ -11,7 +11,7 @@ use Rattle.words.specs.Stream.{stream}
 use Rattle.draws.specs.Below.{below}
 use Rattle.draws.specs.Weighted.{chosen}
 use Rattle.nodes.specs.declared.node.Found.{Found}
-use Rattle.tree.specs.Sizes.{sizes, numNodes, treeSize}
+use Rattle.tree.specs.Sizes.{rows, sizes, numNodes, treeSize}
 use Rattle.tree.specs.Levels.{sumsOf}
 use Rattle.shuffle_steps.specs.declared.drawing.Drawing.{Drawing}
 use Rattle.shuffle_steps.specs.Order.{Left, counted, zerosOf, takeWeight, steps, whole, order}
@@ -92,10 +92,12 @@ abbrev pub backOf : {A : Type 0} → Outcome A → ℕ → ℕ
 backOf (refused n) size = size
 backOf (accepted a left) size = 0
 
--- scratch space for n weights, if these are not too many: for the positions and, all zeros, for the sums
+-- scratch space for n weights, if these are not too many: for the positions and, all zeros, for the sums. Above the lowest level of
+-- the tree stands one node, or 17 where there are more than 256 weights
 pub record Scratch (n : ℕ) (drawn sums : List ℕ) : Type 0 where
   pub positions : n ≤ 4096 → n ≤ length drawn
-  pub nodes : n ≤ 4096 → 16 * treeSize n ≤ length sums
+  pub shallow : n ≤ 256 → 16 * (1 + rows n) ≤ length sums
+  pub full : n ≤ 4096 → 256 < n → 16 * (17 + rows n) ≤ length sums
   pub clear : sums ≡ replicate (length sums) 0
 
 -- the tree of all weights is built, and the first value drawn

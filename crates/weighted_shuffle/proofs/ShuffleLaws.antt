@@ -1,13 +1,13 @@
 -- Laws of a whole shuffle: from its beginning, through the draws, to what its answer and its buffers hold.
-use Prim.Native.Nat.{ℕ, _+_, _*_, _≤_}
+use Prim.Native.Nat.{ℕ, _+_, _*_, _≤_, _<_}
 use mathlib.Core.Path.{_≡_, refl, sym, ap, ap₂, _∙_}
 use mathlib.Core.Bool.{Bool, true, false, cond}
 use mathlib.Core.List.{List, _++_}
 use native.Mathlib.Omega.{arith}
-use lib.Dec.{eqb, leb}
+use lib.Dec.{eqb}
 use lib.ListN.{length, take, drop, replicate, length-append, length-replicate, take-append-drop}
 use lib.Seq.{drop-at, length-take-le}
-use borrow.Author.Tests.{eqb-true, le-leb}
+use borrow.Author.Tests.{eqb-true}
 use Rattle.laws.specs.Sums.{total}
 use Rattle.refusals.specs.declared.Refusal.{Refusal}
 use Rattle.refusals.specs.declared.Refusal.the-variants.{None, Number}
@@ -19,7 +19,7 @@ use Rattle.nodes.specs.declared.node.Node.{Node}
 use Rattle.nodes.specs.Node.{zeroNode}
 use Rattle.nodes.specs.Run.{cut, flat, Full}
 use Rattle.nodes.proofs.RunLaws.{cut-flat}
-use Rattle.tree.specs.Sizes.{rows, sizes, above, deep, treeSize}
+use Rattle.tree.specs.Sizes.{rows, sizes, treeSize}
 use Rattle.tree.specs.Levels.{sumsOf, treeOf}
 use Rattle.tree.proofs.CutLaws.{cut-front}
 use Rattle.tree.proofs.Laws.{sums-long, tree-long, tree-none}
@@ -43,30 +43,13 @@ pub record Last (weights list : List ℕ) (cursor : ℕ) (order : List ℕ) (nod
   pub nodes-are : nodes′ ≡ nodesAfter (shuffled weights (length order) (length nodes) (drop cursor list)) (sizes (length weights) .«tree_size») nodes
 
 -- arrays of zeros that are long enough for n weights
-pub zeros-scratch : (n d s : ℕ) → (n ≤ 4096 → n ≤ d) → (n ≤ 4096 → 16 * treeSize n ≤ s) → Scratch n (replicate d 0) (replicate s 0)
-zeros-scratch n d s h g = record {
+pub zeros-scratch : (n d s : ℕ) → (n ≤ 4096 → n ≤ d) → (n ≤ 256 → 16 * (1 + rows n) ≤ s) → (n ≤ 4096 → 256 < n → 16 * (17 + rows n) ≤ s) → Scratch n (replicate d 0) (replicate s 0)
+zeros-scratch n d s h f g = record {
   positions = λ few. omega (arith, h few, length-replicate {A = ℕ} d 0);
-  nodes = λ few. omega (arith, g few, length-replicate {A = ℕ} s 0);
+  shallow = λ few. omega (arith, f few, length-replicate {A = ℕ} s 0);
+  full = λ few more. omega (arith, g few more, length-replicate {A = ℕ} s 0);
   clear = ap (λ (k : ℕ). replicate k 0) (sym (length-replicate {A = ℕ} s 0));
 }
-
--- at most 17 nodes stand above the lowest level, and above that of up to 256 weights one
-pub size-any : (n : ℕ) → treeSize n ≤ 17 + rows n
-unfolding deep
-size-any n = go (leb n 16) (leb n 256)
-  where
-    go : (b c : Bool) → above (cond b 0 (cond c 1 2)) + rows n ≤ 17 + rows n
-    go true c = omega arith
-    go false true = omega arith
-    go false false = omega arith
-
-pub size-shallow : (n : ℕ) → n ≤ 256 → treeSize n ≤ 1 + rows n
-unfolding deep
-size-shallow n h = rw (le-leb n 256 h) (go (leb n 16))
-  where
-    go : (b : Bool) → above (cond b 0 1) + rows n ≤ 1 + rows n
-    go true = omega arith
-    go false = omega arith
 
 -- no more words are left than there were
 pub shuffled-no-longer : (weights : List ℕ) (room nodes : ℕ) (ws : List ℕ) → NoLonger ws (shuffled weights room nodes ws)

@@ -47,7 +47,7 @@ use Rattle.shuffle_steps.specs.declared.answers.ShuffleAnswer.{ShuffleAnswer}
 use Rattle.shuffle_steps.specs.Progress.{Scratch}
 use Rattle.shuffle_steps.proofs.answers.ShuffleAnswer as S
 use Rattle.shuffle_steps.proofs.answers.ShuffleAnswer.Laws as S′
-use Rattle.weighted_shuffle.proofs.ShuffleLaws.{Last, zeros-scratch, size-any, size-shallow}
+use Rattle.weighted_shuffle.proofs.ShuffleLaws.{Last, zeros-scratch}
 use Rattle.weighted_shuffle.proofs.ShuffleInCalls.{ShuffleIn}
 use Rattle.weighted_shuffle.proofs.SizeWalk.{refW, refN, param₁, param₂, param₃, param₄, walks}
 use Rattle.weighted_shuffle.proofs.shuffle.shuffle_in.Symbol as shuffle-in-def
@@ -64,13 +64,13 @@ stayed = (stay-none-slice (0 ∷ []) tt (plain (λ _. u64)) yes, (stay-none-slic
 
 -- each size is enough
 small : (n : ℕ) → n ≤ 64 → Scratch n (replicate 64 0) (replicate 80 0)
-small n h = zeros-scratch n 64 80 (λ _. h) (λ _. omega (arith, h, size-shallow n (omega (arith, h))))
+small n h = zeros-scratch n 64 80 (λ _. h) (λ _. omega (arith, h)) (λ _ more. absurd (omega (arith, h, more)))
 
 middle : (n : ℕ) → n ≤ 1024 → Scratch n (replicate 1024 0) (replicate 1296 0)
-middle n h = zeros-scratch n 1024 1296 (λ _. h) (λ _. omega (arith, h, size-any n))
+middle n h = zeros-scratch n 1024 1296 (λ _. h) (λ few. omega (arith, few)) (λ _ _. omega (arith, h))
 
 large : (n : ℕ) → Scratch n (replicate 4096 0) (replicate 4368 0)
-large n = zeros-scratch n 4096 4368 (λ few. few) (λ few. omega (arith, few, size-any n))
+large n = zeros-scratch n 4096 4368 (λ few. few) (λ few. omega (arith, few)) (λ few _. omega (arith, few))
 
 module _ {M : Type 1} (𝓤 : URA M) (H : Heap 𝓤) (A : Atoms 𝓤) (W : Given 𝓤 H A) (mem : Memory → SProp 𝓤) (run : Routine → Fun 𝓤) (κ₁ κ₂ κ₃ κ₄ : Lft) (q₁ q₂ q₃ q₄ : Share) (b₁ o₁ b₂ o₂ b₃ o₃ b₄ o₄ : ℕ) (γ₁ γ₂ γ₃ γ₄ : GName) (weights list : List ℕ) (cursor : ℕ) (order : List ℕ) (ys : List Node)
     (room₁ : Room u64 (length weights)) (room₂ : Room u64 (length list)) (cursor-fits : cursor < 2 ^ 64) (room₃ : Room u64 (length order)) (room₄ : Room N.the-row (length ys)) where
