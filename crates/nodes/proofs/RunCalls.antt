@@ -37,7 +37,7 @@ use denote.Triple.Walked.{says}
 use Rattle.nodes.specs.declared.node.Node.{Node}
 use Rattle.nodes.specs.declared.node.Found.{Found}
 use Rattle.nodes.specs.Node.{zeroNode}
-use Rattle.nodes.specs.Walks.{root, down, up, Enough}
+use Rattle.nodes.specs.Walks.{root, down, up, Enough, Fits}
 use Rattle.nodes.proofs.WalkLaws.{HasSum, lessSum, length-up}
 use Rattle.nodes.proofs.node.Node as T
 use Rattle.nodes.proofs.node.Node.Laws as T′
@@ -165,7 +165,7 @@ module _ {M : Type 1} (𝓤 : URA M) (H : Heap 𝓤) (A : Atoms 𝓤) (W : Given
       at-once ! $ show ! (λ (l : List Node). mean 𝓤 H A (given (Removed l u) (‵ (flft (ν ∷ []) fullShare) ⊛ ‵ (finally T.the-row δ l)))) (zs .0) $ check ! (e, is) $ done !))))
 
 -- the same of `search`
-module _ {M : Type 1} (𝓤 : URA M) (H : Heap 𝓤) (A : Atoms 𝓤) (W : Given 𝓤 H A) (mem : Memory → SProp 𝓤) (run : Routine → Fun 𝓤) (b o : ℕ) (ys : List Node) (size val : ℕ) (val-fits : val < 2 ^ 64) (asked : (size ≤ length ys) × (size ≤ 4096)) where
+module _ {M : Type 1} (𝓤 : URA M) (H : Heap 𝓤) (A : Atoms 𝓤) (W : Given 𝓤 H A) (mem : Memory → SProp 𝓤) (run : Routine → Fun 𝓤) (b o : ℕ) (ys : List Node) (size val : ℕ) (val-fits : val < 2 ^ 64) (asked : (size ≤ length ys) × ((size ≤ 4096) × Fits size ys val)) where
   abbrev to-search : ℕ → GName → Search 𝓤 H A mem run .Ghost
   to-search ν δ = (((ν ∷ [], tt), (fullShare, tt), tt, (at 𝓤 T.the-row (ν ∷ []) δ b o δ ys, (size, (val, tt))), (sliceVal (b, o) (length ys) ∷ [], (vint w64 size ∷ [], (vint w64 val ∷ [], tt)))), tt)
 
@@ -240,11 +240,11 @@ module _ {M : Type 1} {𝓤 : URA M} {H : Heap 𝓤} {A : Atoms 𝓤} {K : Type 
 
 module _ {M : Type 1} {𝓤 : URA M} {H : Heap 𝓤} {A : Atoms 𝓤} {K : Type 0} {W : Given 𝓤 H A} {Γ : List (Item 𝓤)} {E : Env 𝓤 H} {C : Calls 𝓤 H} {Λ : Loops 𝓤 H} {xs : List Operand} {rest : Body} {d : Place} {p : Post 𝓤 H}
     (mem : Memory → SProp 𝓤) (run : Routine → Fun 𝓤) (κ : Lft) (q : Share) (γ : GName) (b o : ℕ) (ys : List Node) {n : ℕ} (size val : ℕ) where
-  pub calls-search : K → FmC 𝓤 H (W .laws) C → Triple 𝓤 (C #nodes·search) (Search 𝓤 H A mem run) → length ys ≡ n → Room T.the-row n → val < 2 ^ 64 → (size ≤ n) × (size ≤ 4096)
+  pub calls-search : K → FmC 𝓤 H (W .laws) C → Triple 𝓤 (C #nodes·search) (Search 𝓤 H A mem run) → length ys ≡ n → Room T.the-row n → val < 2 ^ 64 → (size ≤ n) × ((size ≤ 4096) × Fits size ys val)
       → ((i₀ i₁ : Item 𝓤) → Opds K W (i₀ ∷ i₁ ∷ Γ) E xs (sliceVal (b, o) n ∷ vint w64 size ∷ vint w64 val ∷ []))
       → ((r : Found) (u : Val) → r ≡ down size ys size (root val) → Is F.the-row r (u ∷ []) → Seq K W (Owns 𝓤 T.the-row κ γ b o ys n ∷ ‵ (flft κ q) ∷ Γ) (lands C Λ E d u rest p))
       → Seq K W (Owns 𝓤 T.the-row κ γ b o ys n ∷ ‵ (flft κ q) ∷ Γ) (runs C Λ E (seq (call #nodes·search xs d) rest) p)
-  calls-search t fm known e = subst (λ (m : ℕ). Room T.the-row m → val < 2 ^ 64 → (size ≤ m) × (size ≤ 4096)
+  calls-search t fm known e = subst (λ (m : ℕ). Room T.the-row m → val < 2 ^ 64 → (size ≤ m) × ((size ≤ 4096) × Fits size ys val)
       → ((i₀ i₁ : Item 𝓤) → Opds K W (i₀ ∷ i₁ ∷ Γ) E xs (sliceVal (b, o) m ∷ vint w64 size ∷ vint w64 val ∷ []))
       → ((r : Found) (u : Val) → r ≡ down size ys size (root val) → Is F.the-row r (u ∷ []) → Seq K W (Owns 𝓤 T.the-row κ γ b o ys m ∷ ‵ (flft κ q) ∷ Γ) (lands C Λ E d u rest p))
       → Seq K W (Owns 𝓤 T.the-row κ γ b o ys m ∷ ‵ (flft κ q) ∷ Γ) (runs C Λ E (seq (call #nodes·search xs d) rest) p)) e

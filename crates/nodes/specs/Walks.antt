@@ -1,10 +1,11 @@
 -- The ways through the tree, over a run of nodes: down from the root, and up from a leaf.
-use Prim.Native.Nat.{ℕ, zero, suc, _-_, _≤_, _<_}
+use Prim.Native.Nat.{ℕ, zero, suc, _+_, _-_, _≤_, _<_, _^_}
 use mathlib.Core.Path.{_≡_}
 use mathlib.Core.Bool.{cond}
 use mathlib.Core.List.{List}
 use lib.Dec.{eqb, ltb}
 use lib.ListN.{length, getD, set}
+use Rattle.laws.specs.Sums.{total}
 use Rattle.nodes.specs.declared.node.Node.{Node}
 use Rattle.nodes.specs.declared.node.Found.{Found}
 use Rattle.nodes.specs.Index.{childOf, parentOf, offsetOf}
@@ -22,6 +23,11 @@ root v = record { index = 0; val = v; weight = 0 }
 abbrev pub down : ℕ → List Node → ℕ → Found → Found
 down zero nodes size at = at
 down (suc steps) nodes size at = cond (ltb (at .index) size) (down steps nodes size (below (getD nodes (at .index) zeroNode) at)) at
+
+-- the sums of each node of a tree of this size are together no number past 64 bits, nor is one more than the value
+pub record Fits (size : ℕ) (nodes : List Node) (v : ℕ) : Type 0 where
+  pub sums : (i : ℕ) → i < size → total (getD nodes i zeroNode .sums) < 2 ^ 64
+  pub value : v + 1 < 2 ^ 64
 
 -- the sum of the sub-tree at an index
 abbrev pub sumAt : List Node → ℕ → ℕ

@@ -19,8 +19,8 @@ use Rattle.nodes.specs.Walks.{root, down, up, Enough}
 use Rattle.nodes.proofs.RunLaws.{length-cut}
 use Rattle.tree.specs.Sizes.{rows, above, deep, numNodes, treeSize}
 use Rattle.tree.specs.Levels.{levels, padded, sumsOf, treeOf}
-use Rattle.tree.proofs.CutLaws.{cut-zero}
-use Rattle.tree.proofs.LevelLaws.{levels-long, levels-none, Taken, taken}
+use Rattle.tree.proofs.CutLaws.{cut-at, cut-zero}
+use Rattle.tree.proofs.LevelLaws.{levels-long, level-total, levels-none, Taken, taken}
 use Rattle.tree.proofs.SearchLaws.{searched, deep-few}
 use Rattle.tree.proofs.SizeLaws.{shape}
 
@@ -44,6 +44,12 @@ sums-long ws = levels-long (deep (length ws)) (padded ws) ∙ omega (arith, padd
 
 pub tree-long : (ws : List ℕ) → length (treeOf ws) ≡ treeSize (length ws)
 tree-long ws = length-cut (treeSize (length ws)) (sumsOf ws)
+
+-- no node's sums come to more than the weights
+pub node-total : (ws : List ℕ) (more : List Node) (i : ℕ) → i < treeSize (length ws) → total (getD (treeOf ws ++ more) i zeroNode .sums) ≤ total ws
+node-total ws more i h =
+    rw (List·getD-append (treeOf ws) more zeroNode i (omega (arith, tree-long ws)), cut-at (treeSize (length ws)) (sumsOf ws) i h)
+    (omega (arith, level-total (deep (length ws)) (padded ws) i, padded-total ws))
 
 module _ (ws : List ℕ) (few : length ws ≤ 4096) (more : List Node) where
   abbrev n : ℕ

@@ -1,13 +1,16 @@
 -- Laws of the levels of a tree, over lists of sums: their lengths, a weight taken out, no weight left.
 use Prim.Native.Nat.{ℕ, zero, suc, _+_, _-_, _*_, _/_, _^_, _≤_, _<_}
 use mathlib.Core.Path.{_≡_, refl, sym, ap, ap₂, _∙_}
+use mathlib.Core.Logic.{⊎-elim}
 use mathlib.Core.List.{List, [], _∷_, _++_, append-assoc}
 use native.Mathlib.Nat.{zero-add, suc-add}
 use native.Mathlib.Omega.{arith}
-use lib.ListN.{length, getD, set, replicate, length-append, replicate-append-replicate, List·getD-append}
-use lib.Seq.{getD-append-add, set-append-left}
+use lib.ListN.{length, getD, set, take, drop, replicate, length-append, length-drop, replicate-append-replicate, List·getD-append}
+use lib.Seq.{getD-append-add, set-append-left, take-append-le, drop-append-le, drop-append-add}
 use borrow.Author.Tests.{ne-eqb}
 use Rattle.laws.specs.Sums.{total}
+use Rattle.laws.proofs.Sums.{total-take-le, total-cut}
+use Rattle.laws.proofs.Numbers.{split}
 use Rattle.nodes.specs.declared.node.Node.{Node}
 use Rattle.nodes.specs.Index.{parentOf}
 use Rattle.nodes.specs.Run.{cut}
@@ -33,6 +36,30 @@ pub levels-long : (d : ℕ) (xs : List ℕ) → length (levels (suc d) xs) ≡ 1
 levels-long d xs =
     length-append (levels d (blocks (16 ^ d) xs)) xs
     ∙ omega (arith, top-long d (blocks (16 ^ d) xs) (length-blocks (16 ^ d) xs))
+
+-- the sums of a node are part of one level, and no level sums to more than the lowest
+part-total : (k n : ℕ) (xs : List ℕ) → total (take k (drop n xs)) ≤ total xs
+part-total k n xs = omega (arith, total-take-le (drop n xs) k, total-cut n xs)
+
+pub level-total : (d : ℕ) (xs : List ℕ) (p : ℕ) → total (take 16 (drop (16 * p) (levels (suc d) xs))) ≤ total xs
+level-total zero xs p = part-total 16 (16 * p) xs
+level-total (suc d) xs p = ⊎-elim (upper (level-total d (blocks (16 ^ suc d) xs) p)) lower (split p (above (suc d)))
+  where
+    tops : List ℕ
+    tops = levels (suc d) (blocks (16 ^ suc d) xs)
+
+    long : length tops ≡ 16 * above (suc d)
+    long = top-long (suc d) (blocks (16 ^ suc d) xs) (length-blocks (16 ^ suc d) xs)
+
+    upper : total (take 16 (drop (16 * p) tops)) ≤ total (blocks (16 ^ suc d) xs) → p < above (suc d) → total (take 16 (drop (16 * p) (tops ++ xs))) ≤ total xs
+    upper ih h =
+        rw (drop-append-le (16 * p) tops xs (omega (arith, long)), take-append-le 16 (drop (16 * p) tops) xs (omega (arith, long, length-drop (16 * p) tops)))
+        (omega (arith, ih, blocks-total-le (16 ^ suc d) xs))
+
+    lower : above (suc d) ≤ p → total (take 16 (drop (16 * p) (tops ++ xs))) ≤ total xs
+    lower h =
+        let e : 16 * p ≡ length tops + (16 * p - length tops) = omega (arith, long) in
+        rw (e, drop-append-add tops xs (16 * p - length tops)) (part-total 16 (16 * p - length tops) xs)
 
 set-append-add : (xs ys : List ℕ) (n x : ℕ) → set (xs ++ ys) (length xs + n) x ≡ xs ++ set ys n x
 set-append-add [] ys n x = rw (zero-add n)

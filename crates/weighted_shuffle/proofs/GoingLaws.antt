@@ -1,5 +1,5 @@
 -- Laws of a shuffle that is going on, for the loop over nodes.
-use Prim.Native.Nat.{ℕ, _+_, _-_, _≤_, _<_}
+use Prim.Native.Nat.{ℕ, _+_, _-_, _^_, _≤_, _<_}
 use mathlib.Core.Path.{_≡_, sym, ap, ap₂, _∙_}
 use mathlib.Core.Bool.{true}
 use mathlib.Core.List.{List, _++_}
@@ -10,10 +10,10 @@ use Rattle.words.specs.Outcome.{Outcome}
 use Rattle.draws.specs.Weighted.{chosen}
 use Rattle.nodes.specs.declared.node.Node.{Node}
 use Rattle.nodes.specs.declared.node.Found.{Found}
-use Rattle.nodes.specs.Walks.{root, down, up, Enough}
+use Rattle.nodes.specs.Walks.{root, down, up, Enough, Fits}
 use Rattle.tree.specs.Sizes.{numNodes, treeSize}
 use Rattle.tree.specs.Levels.{treeOf}
-use Rattle.tree.proofs.Laws.{size-small, tree-long, tree-search, Removes, tree-remove}
+use Rattle.tree.proofs.Laws.{size-small, tree-long, node-total, tree-search, Removes, tree-remove}
 use Rattle.shuffle_steps.specs.declared.drawing.Drawing.{Drawing}
 use Rattle.shuffle_steps.specs.Progress.{Progress, Valued, without}
 use Rattle.shuffle_steps.proofs.ProgressLaws.{rest, at-lt, at-weight, count-lt, progress-next}
@@ -45,6 +45,13 @@ module _ {n : ℕ} {more : List Node} {o : Outcome (List ℕ)} {nodes : List Nod
     omega (arith, size-is, ap length (g .nodes-are), length-append (treeOf ws) more, tree-long ws),
     omega (arith, size-is, size-small (length ws) few),
   )
+
+  -- a search for the value adds up no number past 64 bits
+  pub going-fits : s .ready ≡ true → s .weight < 2 ^ 64 → Fits (s .size) nodes (s .val)
+  going-fits value fits = record {
+    sums = λ i h. rw (g .nodes-are) (omega (arith, node-total ws more i (omega (arith, size-is)), p .weight-is));
+    value = omega (arith, p .value value, p .weight-is);
+  }
 
   module _ {found : Found} (value : s .ready ≡ true) (is : found ≡ down (s .size) nodes (s .size) (root (s .val))) where
     abbrev at : ℕ

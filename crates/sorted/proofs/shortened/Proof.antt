@@ -1,6 +1,5 @@
 -- `sorted::shortened` meets its contract. The invariant: the place searched for is in the window, which has not less than the whole size.
 use Prim.Native.Nat.{_≤_}
-use native.Mathlib.Omega.{arith}
 use Rattle.sorted.specs.Sorted.{FirstAboveIn}
 use borrow.Author.Needs.{needs}
 use Rattle.sorted.proofs.shortened.Statement.{statement}

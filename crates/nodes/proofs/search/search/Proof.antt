@@ -45,13 +45,15 @@ use denote.Exit.{yes}
 use Rattle.nodes.specs.declared.node.Node.{Node}
 use Rattle.nodes.specs.declared.node.Found.{Found}
 use Rattle.nodes.specs.Node.{zeroNode}
-use Rattle.nodes.specs.Walks.{below as belowOf, root as rootOf, down}
+use Rattle.laws.specs.Sums.{total}
+use Rattle.nodes.specs.Walks.{below as belowOf, root as rootOf, down, Fits}
 use Rattle.nodes.proofs.node.Node as T
 use Rattle.nodes.proofs.node.Node.Laws as T′
 use Rattle.nodes.proofs.node.Found as F
 use Rattle.nodes.proofs.node.Found.Laws as F′
 use Rattle.nodes.proofs.While.{whiles}
 use Rattle.nodes.proofs.Cells.{holds, vacant}
+use Rattle.nodes.proofs.Says.{says-three}
 use Rattle.nodes.proofs.WalkLaws.{Falling, falling, fallen}
 use Rattle.nodes.proofs.RunCalls.{NodeAt, node-owned, found-owned}
 use Rattle.nodes.proofs.node.Found.root as root
@@ -90,7 +92,7 @@ module _ {M : Type 1} (𝓤 : URA M) (H : Heap 𝓤) (A : Atoms 𝓤) (mem : Mem
   Below = tripleOf 𝓤 H A below.signature (below.spec 𝓤 H A mem run)
 
 module _ {M : Type 1} (𝓤 : URA M) (H : Heap 𝓤) (A : Atoms 𝓤) (W : Given 𝓤 H A) (mem : Memory → SProp 𝓤) (run : Routine → Fun 𝓤) (κ : Lft) (q : Share) (b o : ℕ) (γ : GName) (ys : List Node) (size v : ℕ)
-    (v-fits : v < 2 ^ 64) (within : size ≤ length ys) (small : size ≤ 4096) (room : Room T.the-row (length ys)) where
+    (v-fits : v < 2 ^ 64) (within : size ≤ length ys) (small : size ≤ 4096) (fits : Fits size ys v) (room : Room T.the-row (length ys)) where
   abbrev n : ℕ
   n = length ys
 
@@ -153,10 +155,12 @@ module _ {M : Type 1} (𝓤 : URA M) (H : Heap 𝓤) (A : Atoms 𝓤) (W : Given
   abbrev to-below : Found → Node → Val → Below 𝓤 H A mem run .Ghost
   to-below r m u = ((tt, tt, tt, (r, (m, tt)), (val r ∷ [], (u ∷ [], tt))), tt)
 
-  goes-below : (r : Found) (m : Node) (u : Val) → Has r → Is T.the-row m (u ∷ []) → r .index < size → ent 𝓤 (emp 𝓤) (Below 𝓤 H A mem run .pre (to-below r m u))
-  goes-below r m u has is h =
+  goes-below : (r : Found) (m : Node) (u : Val) → Has r → Is T.the-row m (u ∷ []) → r .index < size → m ≡ getD ys (r .index) zeroNode → r .val ≤ v → ent 𝓤 (emp 𝓤) (Below 𝓤 H A mem run .pre (to-below r m u))
+  goes-below r m u has is h e l =
       let low : r .index < 4096 = omega arith in
-      qed W [] ∵ says ! low $ nothing ! $ frame ! $ nothing ! $ owned ! T.the-row (Is T.the-row) (node-owned 𝓤 H A) m _ is $ fjoin ! $ owned ! F.the-row (Is F.the-row) (found-owned 𝓤 H A) r _ has $ fjoin ! $ done !
+      let node-fits : total (m .sums) < 2 ^ 64 = subst (λ (z : Node). total (z .sums) < 2 ^ 64) (sym e) (fits .sums (r .index) h) in
+      let value-fits : r .val + 1 < 2 ^ 64 = omega (arith, fits .value) in
+      qed W [] ∵ says-three ! low node-fits value-fits $ nothing ! $ frame ! $ nothing ! $ owned ! T.the-row (Is T.the-row) (node-owned 𝓤 H A) m _ is $ fjoin ! $ owned ! F.the-row (Is F.the-row) (found-owned 𝓤 H A) r _ has $ fjoin ! $ done !
 
   below-said : (r : Found) (m : Node) (r′ : Found) → ent 𝓤 (ensured 𝓤 H A below.ended (below.clauses 𝓤 H A mem run) tt (r, (m, tt)) tt r′) (fact 𝓤 (r′ ≡ belowOf m r))
   below-said r m r′ = exE 𝓤 _ (λ ws. snd∗ 𝓤 (sem 𝓤 H A (lasts below.ended tt (r, (m, tt)) ws)) (fact 𝓤 (r′ ≡ belowOf m r)))
@@ -168,6 +172,7 @@ module _ {M : Type 1} (𝓤 : URA M) (H : Heap 𝓤) (A : Atoms 𝓤) (W : Given
     has : Has r
     reach : size ≤ r .index + l
     is : down l ys size r ≡ down size ys size (rootOf v)
+    low : r .val ≤ v
 
   abbrev Nearer : State → State → Type 0
   Nearer t u = t .l < u .l
@@ -175,11 +180,11 @@ module _ {M : Type 1} (𝓤 : URA M) (H : Heap 𝓤) (A : Atoms 𝓤) (W : Given
   Nearer-wf : WellFounded Nearer
   Nearer-wf = InvImage·wf (λ (t : State). t .l) (Nat·lt-wfRel .wf)
 
-  abbrev next : (t : State) (r : Found) → Has r → Falling (t .l) ys size (t .r) r → State
-  next t r has f = record { r = r; l = f .left; has = has; reach = f .reach; is = f .same ∙ t .is }
+  abbrev next : (t : State) (r : Found) → Has r → Falling (t .l) ys size (t .r) r → r .val ≤ v → State
+  next t r has f low = record { r = r; l = f .left; has = has; reach = f .reach; is = f .same ∙ t .is; low = low }
 
   abbrev start : (r : Found) → r ≡ rootOf v → Has r → State
-  start r e has = record { r = r; l = size; has = has; reach = omega arith; is = ap (down size ys size) e }
+  start r e has = record { r = r; l = size; has = has; reach = omega arith; is = ap (down size ys size) e; low = omega (arith, ap (λ (z : Found). z .val) e) }
 
   module _ (𝓣 : Tables 𝓤 H) (known-root : Triple 𝓤 (𝓣 .C #nodes·root) (Root 𝓤 H A mem run)) (known-node-at : Triple 𝓤 (𝓣 .C #nodes·node-at) (NodeAt 𝓤 H A mem run)) (known-below : Triple 𝓤 (𝓣 .C #nodes·below) (Below 𝓤 H A mem run)) where
     abbrev C : Calls 𝓤 H
@@ -217,7 +222,7 @@ module _ {M : Type 1} (𝓤 : URA M) (H : Heap 𝓤) (A : Atoms 𝓤) (W : Given
           split ! $ move ! (1 ∷ []) $ use1 W (raw (fact 𝓤 (m ≡ getD ys (t .r .index) zeroNode))) (node-at-said (t .r .index) m) $ heard ! (m ≡ getD ys (t .r .index) zeroNode) (λ e. split ! $ move ! (1 ∷ []) $
           peeks ! T.the-row (Is T.the-row) (shows 𝓤 H A T.the-row) m (u ∷ []) (λ is. drop ! $ split ! $ move ! (1 ∷ []) $ drop ! $ move ! (1 ∷ 0 ∷ []) $
           land ! (from ! (stop !)) (init ! 4 refl (LL.lawful T.the-type T′.the-laws 𝓤 H A W .typed m _ is .0)) $
-          use0 W (raw (Below 𝓤 H A mem run .pre (to-below (t .r) m u))) (goes-below (t .r) m u (t .has) is h) $
+          use0 W (raw (Below 𝓤 H A mem run .pre (to-below (t .r) m u))) (goes-below (t .r) m u (t .has) is h e (t .low)) $
           calls-at-last ! (fmOf 𝓤 H (W .laws) 𝓣) (Below 𝓤 H A mem run) known-below (to-below (t .r) m u) (and-then ! (load ! (from ! (stop !)) (look ! 7 refl)) (and-then ! (load ! (from ! (stop !)) (look ! 5 refl)) (no-more !))) (λ u′.
           use1 W (later (some (λ (r′ : Found). (‵ ftrue ⊛ ‵ (F.the-row .own r′ (u′ ∷ []))) ⊛ raw (ensured 𝓤 H A below.ended (below.clauses 𝓤 H A mem run) tt (t .r, (m, tt)) tt r′)))) (id⊢ 𝓤 _) $ await ! tt $ pick ! (λ r′.
           split ! $ move ! (1 ∷ []) $ use1 W (raw (fact 𝓤 (r′ ≡ belowOf m (t .r)))) (below-said (t .r) m r′) $ heard ! (r′ ≡ belowOf m (t .r)) (λ e′. split ! $ drop ! $
@@ -228,7 +233,7 @@ module _ {M : Type 1} (𝓤 : URA M) (H : Heap 𝓤) (A : Atoms 𝓤) (W : Given
           -- the struct's cell, at the struct of its fields
           rewrite ! 6 (λ (x : Val). ‵ (fat fullShare F′.mir l₄ 0 x)) (ap only told) refl $
           forget ! 2 refl $ forget ! 4 refl $
-          again ! Nearer At t (next t r′ (subst (Is F.the-row r′) told is′) f) (f .less))))))))))
+          again ! Nearer At t (next t r′ (subst (Is F.the-row r′) told is′) f (omega (arith, ap (λ (z : Found). z .val) e′, t .low))) (f .less))))))))))
           (λ over. exec ! C Λ En mir.t-3 (atRet En Post) $
           assigns ! (of-opd ! (load ! (from ! (stop !)) (look ! 6 refl))) (from ! (stop !)) (init ! 14 refl (LL.lawful F.the-type F′.the-laws 𝓤 H A W .typed (t .r) _ (t .has) .0)) $
           returns ! (look ! 14 refl) $ forget ! 2 refl $ forget ! 6 refl $ forget ! 8 refl $ forget ! 10 refl $ forget ! 12 refl $ forget ! 14 refl $
@@ -264,8 +269,8 @@ module _ {M : Type 1} (𝓤 : URA M) (H : Heap 𝓤) (A : Atoms 𝓤) (W : Given
       → Walks 𝓤 H A search.ended stayed (WpFn 𝓤 H (𝓣 .C) (𝓣 .Λ) code.function) (search.clauses 𝓤 H A mem run)
   search-walks 𝓣 k₁ k₂ k₃ = walked 𝓤 H A search.ended stayed (search.clauses 𝓤 H A mem run) (WpFn 𝓤 H (𝓣 .C) (𝓣 .Λ) code.function)
       (λ κs. (slice-vals, (uint-vals w64, (uint-vals w64, tt)))) (λ κs. (shr-slice-tells (named 0) (κs .0) T.the-row, (uint-tells w64, (uint-tells w64, tt))))
-      (λ κs qs bounds a g are. needs 𝓤 ((a .1 .0 ≤ length (a .0 .now)) × (a .1 .0 ≤ 4096)) _ (λ asked.
-      walk 𝓤 H A W mem run (κs .0) (qs .0) (a .0 .ptr .0) (a .0 .ptr .1) (a .0 .name) (a .0 .now) (a .1 .0) (a .1 .1 .0) (are .1 .1 .0 .1) (asked .0) (asked .1) (are .0 .0 .1) 𝓣 k₁ k₂ k₃))
+      (λ κs qs bounds a g are. needs 𝓤 ((a .1 .0 ≤ length (a .0 .now)) × ((a .1 .0 ≤ 4096) × Fits (a .1 .0) (a .0 .now) (a .1 .1 .0))) _ (λ asked.
+      walk 𝓤 H A W mem run (κs .0) (qs .0) (a .0 .ptr .0) (a .0 .ptr .1) (a .0 .name) (a .0 .now) (a .1 .0) (a .1 .1 .0) (are .1 .1 .0 .1) (asked .0) (asked .1 .0) (asked .1 .1) (are .0 .0 .1) 𝓣 k₁ k₂ k₃))
 
 search-meets : {M : Type 1} (𝓤 : URA M) (H : Heap 𝓤) (A : Atoms 𝓤) (W : Given 𝓤 H A) (mem : Memory → SProp 𝓤) (run : Routine → Fun 𝓤) (𝓣 : Tables 𝓤 H)
     → Triple 𝓤 (𝓣 .C #nodes·root) (Root 𝓤 H A mem run) → Triple 𝓤 (𝓣 .C #nodes·node-at) (NodeAt 𝓤 H A mem run) → Triple 𝓤 (𝓣 .C #nodes·below) (Below 𝓤 H A mem run)

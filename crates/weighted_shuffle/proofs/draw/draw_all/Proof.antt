@@ -45,7 +45,7 @@ use denote.Exit.{yes}
 use Rattle.words.specs.Outcome.{Outcome}
 use Rattle.nodes.specs.declared.node.Node.{Node}
 use Rattle.nodes.specs.declared.node.Found.{Found}
-use Rattle.nodes.specs.Walks.{root, down, up}
+use Rattle.nodes.specs.Walks.{root, down, up, Fits}
 use Rattle.nodes.proofs.node.Node as T
 use Rattle.nodes.proofs.node.Found as F
 use Rattle.nodes.proofs.node.Found.Laws as F′
@@ -68,7 +68,7 @@ use Rattle.shuffle_steps.proofs.drawing.took.Symbol as took-def
 use Rattle.shuffle_steps.proofs.drawing.took.Symbol.{name as #shuffle-steps·took}
 use Rattle.shuffle_steps.proofs.drawing.took.Met as took-thm
 use Rattle.weighted_shuffle.specs.Going.{Going, Started, Drew}
-use Rattle.weighted_shuffle.proofs.GoingLaws.{Asks, going-search, going-asks, going-next}
+use Rattle.weighted_shuffle.proofs.GoingLaws.{Asks, going-search, going-fits, going-asks, going-next}
 use Rattle.weighted_shuffle.proofs.DrawCalls.{Took, drawing-owned, with-found, calls-took}
 use Rattle.weighted_shuffle.proofs.draw.draw_all.Key.{name as #weighted-shuffle·draw-all}
 use Rattle.weighted_shuffle.proofs.draw.draw_all as draw-all
@@ -234,7 +234,7 @@ module _ {M : Type 1} (𝓤 : URA M) (H : Heap 𝓤) (A : Atoms 𝓤) (W : Given
           (λ ready.
           assigns ! (addr ! (from ! (fld ! refl (hop ! (look-in ! 34 (sub ! 0 refl (whole !))) (stop !))))) (from ! (stop !)) (init ! 18 refl (tt, tt)) $
           assigns ! (agg ! (and-then ! (load ! (from ! (stop !)) (look ! 18 refl)) (and-then ! (load ! (from ! (fld ! refl (stop !))) (look-in ! 34 (sub ! 1 refl (whole !)))) (no-more !)))) (from ! (stop !)) (init ! 16 refl (tt, (tt, (record { fits = room₁ .0 }, tt)))) $
-          calls-search mem run κ₁ q₁ γ₁ b₁ o₁ (t .zs) (t .s .size) (t .s .val) ! (fmOf 𝓤 H (W .laws) 𝓣) known-search (t .nodes-long) room₁ val-fits seeks (λ _ _. and-then ! (load ! (from ! (stop !)) (look ! 16 refl)) (and-then ! (load ! (from ! (fld ! refl (stop !))) (look-in ! 26 (sub ! 3 refl (whole !)))) (and-then ! (load ! (from ! (fld ! refl (stop !))) (look-in ! 26 (sub ! 5 refl (whole !)))) (no-more !)))) (λ found u e is.
+          calls-search mem run κ₁ q₁ γ₁ b₁ o₁ (t .zs) (t .s .size) (t .s .val) ! (fmOf 𝓤 H (W .laws) 𝓣) known-search (t .nodes-long) room₁ val-fits (seeks ready) (λ _ _. and-then ! (load ! (from ! (stop !)) (look ! 16 refl)) (and-then ! (load ! (from ! (fld ! refl (stop !))) (look-in ! 26 (sub ! 3 refl (whole !)))) (and-then ! (load ! (from ! (fld ! refl (stop !))) (look-in ! 26 (sub ! 5 refl (whole !)))) (no-more !)))) (λ found u e is.
           land ! (from ! (stop !)) (init ! 24 refl (LL.lawful F.the-type F′.the-laws 𝓤 H A W .typed found _ is .0)) $
           -- the struct's cell, at the struct of its fields
           rewrite ! 24 (λ (x : Val). ‵ (fat fullShare F′.mir l₆ 0 x)) (ap only (told found u is)) refl $
@@ -262,8 +262,13 @@ module _ {M : Type 1} (𝓤 : URA M) (H : Heap 𝓤) (A : Atoms 𝓤) (W : Given
           val-fits : t .s .val < 2 ^ 64
           val-fits = LL.owed D.the-type D′.the-laws (t .s) _ (t .has) .1 .1 .1 .1 .1 .0 .1
 
-          seeks : (t .s .size ≤ length ys) × (t .s .size ≤ 4096)
-          seeks = subst (λ (n : ℕ). (t .s .size ≤ n) × (t .s .size ≤ 4096)) (t .nodes-long) (going-search (t .started .going))
+          left-fits : t .s .weight < 2 ^ 64
+          left-fits = LL.owed D.the-type D′.the-laws (t .s) _ (t .has) .1 .1 .1 .1 .0 .1
+
+          seeks : T (t .s .ready) → (t .s .size ≤ length ys) × ((t .s .size ≤ 4096) × Fits (t .s .size) (t .zs) (t .s .val))
+          seeks ready =
+              let h = going-search (t .started .going) in
+              (subst (λ (n : ℕ). t .s .size ≤ n) (t .nodes-long) (h .0), (h .1, going-fits (t .started .going) (is-true (t .s .ready) ready) left-fits))
 
     -- the loop and what follows it, from a first state
     looped : (t : State) (l₀ l₁ l₂ l₃ l₄ l₅ l₆ l₇ l₈ l₉ l₁₀ l₁₁ l₁₂ l₁₃ l₁₄ l₁₅ : ℕ)

@@ -23,27 +23,27 @@ is : (at : Found) (node : Node) (field : Field) → field ≡ fieldOf (node .sum
     _≡_ {A = Found} (record { index = at .index * 16 % 18446744073709551616 + field .offset + 1; val = field .val; weight = field .weight }) (below node at)
 is at node field e s = rw (s, e)
 
-find-requires : tie.Need-find-requires
-find-requires c κs = search needs
+find-at-requires : tie.Need-find-at-requires
+find-at-requires c κs = search needs
 
 add-t5 : tie.Need-add-t5
 add-t5 c =
     let start = c .before .before .before in
     let sixteen : length (start .args .node .sums) ≡ 16 = search needs in
-    let s = small (start .args .self .index) (start .args .node .sums) (start .args .self .val) _ (c .before .before .find .ensures) sixteen (start .pre) in
-    record { fits = omega (arith, s .0, s .1, start .pre) }
+    let s = small (start .args .self .index) (start .args .node .sums) (start .args .self .val) _ (c .before .before .find-at .ensures) sixteen (start .pre .0) in
+    record { fits = omega (arith, s .0, s .1, start .pre .0) }
 
 add-t6 : tie.Need-add-t6
 add-t6 c =
     let start = c .before .before .before in
     let sixteen : length (start .args .node .sums) ≡ 16 = search needs in
-    let s = small (start .args .self .index) (start .args .node .sums) (start .args .self .val) _ (c .before .before .find .ensures) sixteen (start .pre) in
-    record { fits = omega (arith, s .0, s .1, start .pre) }
+    let s = small (start .args .self .index) (start .args .node .sums) (start .args .self .val) _ (c .before .before .find-at .ensures) sixteen (start .pre .0) in
+    record { fits = omega (arith, s .0, s .1, start .pre .0) }
 
 returns : tie.Need-returns
 returns c =
     let start = c .before .before .before in
-    is (start .args .self) (start .args .node) _ (c .before .before .find .ensures) (omega (arith, start .pre))
+    is (start .args .self) (start .args .node) _ (c .before .before .find-at .ensures) (omega (arith, start .pre .0))
 
 pub below-spec : {M : Type 1} → statement M
-below-spec = tie.close (tie.spec find-requires add-t5 add-t6 returns)
+below-spec = tie.close (tie.spec find-at-requires add-t5 add-t6 returns)
