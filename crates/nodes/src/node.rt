@@ -62,7 +62,9 @@ impl Node {
             weight: 0,
         }
     }
-    // The same for the value one below a limit, four sums at a time: a processor guesses one place of four, not of sixteen.
+
+    // The same for the value one below a limit, four sums at a time: a processor guesses one place of four, not of sixteen, and a
+    // test by `<` costs it less than one by `<=`.
     fn find_by_fours(self, limit: u64) -> Field
         requires { ⌜ total (self .sums) < 2 ^ 64 ⌝ }
         requires { ⌜ 0 < limit ⌝ }
