@@ -1,5 +1,5 @@
 // The search of a sorted list, without a branch that a processor would have to guess: a step adds up comparisons.
-ghost use Prim.Native.Nat.{_+_, _*_, _-_, _≤_, _<_, min};
+ghost use Prim.Native.Nat.{_+_, _*_, _-_, _≤_, _<_};
 ghost use mathlib.Core.Path.{_≡_};
 ghost use mathlib.Core.Bool.{cond};
 ghost use lib.Dec.{ltb};
@@ -39,26 +39,39 @@ fn past_parts(sums: &[u64], v: u64, w: Window, part: usize) -> Window
     }
 }
 
-// Steps of one place each, until the window has this size.
-fn one_by_one(sums: &[u64], v: u64, w: Window, to: usize) -> Window
+// Steps of one place each, to the end.
+fn one_by_one(sums: &[u64], v: u64, w: Window) -> usize
     requires { ⌜ Sorted (now sums) ⌝ }
     requires { ⌜ FirstAboveIn (now sums) v (w .low) (w .size) ⌝ }
-    requires { ⌜ to ≤ w .size ⌝ }
-    ensures { λ r. ⌜ FirstAboveIn (now (sums .entry)) v (r .low) to ⌝ }
-    ensures { λ r. ⌜ r .size ≡ to ⌝ }
+    ensures { λ r. ⌜ r ≡ firstAbove (now (sums .entry)) v ⌝ }
 {
     let mut low = w.low;
     let mut size = w.size;
-    while to < size {
+    while 0 < size {
         low += precedes(sums, v, low);
         size -= 1;
     }
-    Window { low, size }
+    low
+}
+
+// One step: past a part whose last place comes before the one searched for.
+fn past_part(sums: &[u64], v: u64, w: Window, part: usize) -> Window
+    requires { ⌜ Sorted (now sums) ⌝ }
+    requires { ⌜ FirstAboveIn (now sums) v (w .low) (w .size) ⌝ }
+    requires { ⌜ (0 < part) × (2 * part ≤ w .size + 1) ⌝ }
+    ensures { λ r. ⌜ FirstAboveIn (now (sums .entry)) v (r .low) (r .size) ⌝ }
+    ensures { λ r. ⌜ r .size ≡ w .size - part ⌝ }
+{
+    let low = w.low;
+    Window {
+        low: low + part * precedes(sums, v, low + part - 1),
+        size: w.size - part,
+    }
 }
 
 // The largest size up to n, and up to 4,095, that is one less than a power of four.
-fn whole_size(n: usize) -> usize
-    ensures { λ r. ⌜ r ≤ n ⌝ }
+fn size_by_fours(n: usize) -> usize
+    ensures { λ r. ⌜ (r ≤ n) × (r ≤ 4095) ⌝ }
 {
     if 4095 <= n {
         return 4095;
@@ -81,14 +94,23 @@ fn whole_size(n: usize) -> usize
     0
 }
 
-// The lesser of two numbers.
-fn lesser(a: usize, b: usize) -> usize
-    ensures { λ r. ⌜ r ≡ min a b ⌝ }
+// The largest that is one less than a power of two.
+fn whole_size(n: usize) -> usize
+    ensures { λ r. ⌜ (r ≤ n) × (r ≤ 4095) ⌝ }
 {
-    if b < a { b } else { a }
+    let fours = size_by_fours(n);
+    let twice = 2 * fours + 1;
+    if n < twice {
+        return fours;
+    }
+    if 4095 < twice {
+        return fours;
+    }
+    twice
 }
 
-// The window of a list that has a number above v, shortened to a whole size: from there on the steps are of constant lengths.
+// The window of a list that has a number above v, shortened to a whole size: from there on the steps are of constant lengths. One
+// step does it, but for lists of more than 8,191 numbers.
 fn shortened(sums: &[u64], v: u64) -> Window
     requires { ⌜ Sorted (now sums) ⌝ }
     requires { ⌜ firstAbove (now sums) v < length (now sums) ⌝ }
@@ -99,15 +121,30 @@ fn shortened(sums: &[u64], v: u64) -> Window
         size: sums.len() - 1,
     };
     let to = whole_size(w.size);
-    while to + 2 < w.size {
-        let part = lesser((w.size - to) / 3, (w.size + 1) / 4);
-        let next = past_parts(sums, v, w, part);
+    while 2 * to + 1 < w.size {
+        let next = past_part(sums, v, w, (w.size + 1) / 2);
         w = next;
     }
-    one_by_one(sums, v, w, to)
+    if w.size <= to {
+        return w;
+    }
+    past_part(sums, v, w, w.size - to)
 }
 
-// A step for a window that has this whole size: a quarter of its places is left.
+// A step for a window that has this whole size: half of its places are left.
+fn halved(sums: &[u64], v: u64, w: Window, half: usize) -> Window
+    requires { ⌜ Sorted (now sums) ⌝ }
+    requires { ⌜ FirstAboveIn (now sums) v (w .low) (w .size) ⌝ }
+    requires { ⌜ (0 < half) × (half ≤ 1024) ⌝ }
+    ensures { λ r. ⌜ FirstAboveIn (now (sums .entry)) v (r .low) (r .size) ⌝ }
+{
+    if w.size != 2 * half - 1 {
+        return w;
+    }
+    past_part(sums, v, w, half)
+}
+
+// The same to a quarter.
 fn quartered(sums: &[u64], v: u64, w: Window, quarter: usize) -> Window
     requires { ⌜ Sorted (now sums) ⌝ }
     requires { ⌜ FirstAboveIn (now sums) v (w .low) (w .size) ⌝ }
@@ -120,6 +157,17 @@ fn quartered(sums: &[u64], v: u64, w: Window, quarter: usize) -> Window
     past_parts(sums, v, w, quarter)
 }
 
+// A step to a window of part - 1, from one of 4 * part - 1 or of 2 * part - 1.
+fn stepped(sums: &[u64], v: u64, w: Window, part: usize) -> Window
+    requires { ⌜ Sorted (now sums) ⌝ }
+    requires { ⌜ FirstAboveIn (now sums) v (w .low) (w .size) ⌝ }
+    requires { ⌜ (0 < part) × (part ≤ 1024) ⌝ }
+    ensures { λ r. ⌜ FirstAboveIn (now (sums .entry)) v (r .low) (r .size) ⌝ }
+{
+    let next = quartered(sums, v, w, part);
+    halved(sums, v, next, part)
+}
+
 // The smallest place of a sorted list whose number exceeds v, where there is one.
 pub fn first_above(sums: &[u64], v: u64) -> usize
     requires { ⌜ Sorted (now sums) ⌝ }
@@ -127,12 +175,11 @@ pub fn first_above(sums: &[u64], v: u64) -> usize
     ensures { λ r. ⌜ r ≡ firstAbove (now (sums .entry)) v ⌝ }
 {
     let whole = shortened(sums, v);
-    let w1 = quartered(sums, v, whole, 1024);
-    let w2 = quartered(sums, v, w1, 256);
-    let w3 = quartered(sums, v, w2, 64);
-    let w4 = quartered(sums, v, w3, 16);
-    let w5 = quartered(sums, v, w4, 4);
-    let w6 = quartered(sums, v, w5, 1);
-    let found = one_by_one(sums, v, w6, 0);
-    found.low
+    let w1 = stepped(sums, v, whole, 1024);
+    let w2 = stepped(sums, v, w1, 256);
+    let w3 = stepped(sums, v, w2, 64);
+    let w4 = stepped(sums, v, w3, 16);
+    let w5 = stepped(sums, v, w4, 4);
+    let w6 = stepped(sums, v, w5, 1);
+    one_by_one(sums, v, w6)
 }

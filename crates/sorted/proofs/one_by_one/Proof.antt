@@ -1,5 +1,5 @@
 -- `sorted::one_by_one` meets its contract. The invariant: the place searched for is from low to low + size.
-use Prim.Native.Nat.{suc, _+_, _*_, _≤_}
+use Prim.Native.Nat.{suc, _+_, _*_}
 use native.Mathlib.Omega.{arith}
 use denote.Ref.{now}
 use Rattle.sorted.specs.Sorted.{firstAbove, FirstAboveIn}
@@ -9,10 +9,10 @@ use Rattle.sorted.proofs.one_by_one.Statement.{statement}
 use Rattle.sorted.proofs.one_by_one.Tie as tie
 
 abbrev Inv-loop : tie.InvT-loop
-Inv-loop sums v to low₀ size₀ low size = FirstAboveIn sums v low size × (to ≤ size)
+Inv-loop sums v low₀ size₀ low size = FirstAboveIn sums v low size
 
 abbrev μ-loop : tie.MeasureT-loop
-μ-loop sums v to low₀ size₀ low size = size
+μ-loop sums v low₀ size₀ low size = size
 
 -- the place after the number looked at
 moved : (c : tie.After-precedes Inv-loop μ-loop) →
@@ -21,7 +21,7 @@ moved : (c : tie.After-precedes Inv-loop μ-loop) →
     Moved (firstAbove (now (a .sums)) (a .v)) 1 (suc (l .loop .low)) (l .loop .low + 1 * c .precedes .result)
 moved c =
     let l = c .before .before in
-    moved-next (l .loop .low) (c .precedes .result) (omega arith) (c .precedes .ensures) (moved-none _ 1 (l .loop .low) (l .loop .inv .0 .from))
+    moved-next (l .loop .low) (c .precedes .result) (omega arith) (c .precedes .ensures) (moved-none _ 1 (l .loop .low) (l .loop .inv .from))
 
 loop-holds : tie.Need-loop-holds Inv-loop μ-loop
 loop-holds c = search needs

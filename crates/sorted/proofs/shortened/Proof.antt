@@ -11,8 +11,8 @@ Inv-loop sums v w₀ to w = FirstAboveIn sums v (w .low) (w .size) × (to ≤ w 
 abbrev μ-loop : tie.MeasureT-loop
 μ-loop sums v w₀ to w = w .size
 
-sub-t8 : tie.Need-sub-t8 Inv-loop μ-loop
-sub-t8 c = search needs
+sub-t7 : tie.Need-sub-t7 Inv-loop μ-loop
+sub-t7 c = search needs
 
 whole-size-requires : tie.Need-whole-size-requires Inv-loop μ-loop
 whole-size-requires c κs = search needs
@@ -20,20 +20,17 @@ whole-size-requires c κs = search needs
 loop-holds : tie.Need-loop-holds Inv-loop μ-loop
 loop-holds c = search needs
 
+mul-if1 : tie.Need-mul-if1 Inv-loop μ-loop
+mul-if1 c = search needs
+
 add-if1 : tie.Need-add-if1 Inv-loop μ-loop
 add-if1 c = search needs
 
-sub-lesser : tie.Need-sub-lesser Inv-loop μ-loop
-sub-lesser c = search needs
+add-past-part : tie.Need-add-past-part Inv-loop μ-loop
+add-past-part c = search needs
 
-add-lesser : tie.Need-add-lesser Inv-loop μ-loop
-add-lesser c = search needs
-
-lesser-requires : tie.Need-lesser-requires Inv-loop μ-loop
-lesser-requires c κs = search needs
-
-past-parts-requires : tie.Need-past-parts-requires Inv-loop μ-loop
-past-parts-requires c κs = search needs
+past-part-requires : tie.Need-past-part-requires Inv-loop μ-loop
+past-part-requires c κs = search needs
 
 loop-less : tie.Need-loop-less Inv-loop μ-loop
 loop-less c = search needs
@@ -41,11 +38,17 @@ loop-less c = search needs
 loop-again : tie.Need-loop-again Inv-loop μ-loop
 loop-again c = search needs
 
-one-by-one-requires : tie.Need-one-by-one-requires Inv-loop μ-loop
-one-by-one-requires c κs = search needs
-
 returns : tie.Need-returns Inv-loop μ-loop
 returns c = search needs
+
+sub-past-part : tie.Need-sub-past-part Inv-loop μ-loop
+sub-past-part c = search needs
+
+past-part-requires-2 : tie.Need-past-part-requires-2 Inv-loop μ-loop
+past-part-requires-2 c κs = search needs
+
+returns-2 : tie.Need-returns-2 Inv-loop μ-loop
+returns-2 c = search needs
 
 pub shortened-spec : {M : Type 1} → statement M
 shortened-spec =
@@ -53,15 +56,16 @@ shortened-spec =
     (tie.spec
     Inv-loop
     μ-loop
-    sub-t8
+    sub-t7
     whole-size-requires
     loop-holds
+    mul-if1
     add-if1
-    sub-lesser
-    add-lesser
-    lesser-requires
-    past-parts-requires
+    add-past-part
+    past-part-requires
     loop-less
     loop-again
-    one-by-one-requires
-    returns)
+    returns
+    sub-past-part
+    past-part-requires-2
+    returns-2)
