@@ -63,8 +63,8 @@ impl Node {
         }
     }
 
-    // The same for the value one below a limit, four sums at a time: a processor guesses one place of four, not of sixteen, and a
-    // test by `<` costs it less than one by `<=`.
+    // The same for the value one below a limit, four sums at a time: one branch for four sums. A limit, since picking by `<` was
+    // faster than by `<=`.
     fn find_by_fours(self, limit: u64) -> Field
         requires { ⌜ total (self .sums) < 2 ^ 64 ⌝ }
         requires { ⌜ 0 < limit ⌝ }
@@ -90,8 +90,8 @@ impl Node {
         }
     }
 
-    // Where a value falls in the node at an index. The nodes of the first two levels are looked at by fours: a search of a large
-    // tree finds them in the cache. Of those below it seldom does, and reads as few sums as it can.
+    // Where a value falls in the node at an index. The nodes of the first two levels are looked at by fours; those below one by
+    // one, which was faster for large trees.
     fn find_at(self, index: usize, val: u64) -> Field
         requires { ⌜ total (self .sums) < 2 ^ 64 ⌝ }
         requires { ⌜ val + 1 < 2 ^ 64 ⌝ }
