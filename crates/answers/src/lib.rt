@@ -14,8 +14,8 @@ use types::{CheckedStake, Formatted};
 use weighted_shuffle::answers::ShuffleAnswer;
 
 pub fn tell_sample(sample: SampleAnswer, answer: &mut [u64; 2]) -> u64
-    ensures* r_value { λ r. ⌜ r ≡ result_code (sample_told sample) ⌝ }
-    ensures* answer_after { λ _. ⌜ answer.new ≡ array (sample_told sample) answer.old ⌝ }
+    ensures r_value { result ≡ result_code (sample_told sample) }
+    ensures answer_after { answer.new ≡ array (sample_told sample) answer.old }
 {
     match sample {
         SampleAnswer::Accepted(s) => {
@@ -27,8 +27,8 @@ pub fn tell_sample(sample: SampleAnswer, answer: &mut [u64; 2]) -> u64
 }
 
 pub fn tell_quorum(quorum: QuorumAnswer, answer: &mut [u64; 1]) -> u64
-    ensures* r_value { λ r. ⌜ r ≡ result_code (quorum_told quorum) ⌝ }
-    ensures* answer_after { λ _. ⌜ answer.new ≡ array (quorum_told quorum) answer.old ⌝ }
+    ensures r_value { result ≡ result_code (quorum_told quorum) }
+    ensures answer_after { answer.new ≡ array (quorum_told quorum) answer.old }
 {
     match quorum {
         QuorumAnswer::Accepted(q) => {
@@ -40,8 +40,8 @@ pub fn tell_quorum(quorum: QuorumAnswer, answer: &mut [u64; 1]) -> u64
 }
 
 pub fn tell_tried(sample: TriedAnswer, answer: &mut [u64; 3]) -> u64
-    ensures* r_value { λ r. ⌜ r ≡ result_code (tried_told sample) ⌝ }
-    ensures* answer_after { λ _. ⌜ answer.new ≡ array (tried_told sample) answer.old ⌝ }
+    ensures r_value { result ≡ result_code (tried_told sample) }
+    ensures answer_after { answer.new ≡ array (tried_told sample) answer.old }
 {
     match sample {
         TriedAnswer::Accepted(s) => {
@@ -53,8 +53,8 @@ pub fn tell_tried(sample: TriedAnswer, answer: &mut [u64; 3]) -> u64
 }
 
 pub fn tell_tried_quorum(quorum: TriedQuorumAnswer, answer: &mut [u64; 2]) -> u64
-    ensures* r_value { λ r. ⌜ r ≡ result_code (tried_quorum_told quorum) ⌝ }
-    ensures* answer_after { λ _. ⌜ answer.new ≡ array (tried_quorum_told quorum) answer.old ⌝ }
+    ensures r_value { result ≡ result_code (tried_quorum_told quorum) }
+    ensures answer_after { answer.new ≡ array (tried_quorum_told quorum) answer.old }
 {
     match quorum {
         TriedQuorumAnswer::Accepted(q) => {
@@ -66,8 +66,8 @@ pub fn tell_tried_quorum(quorum: TriedQuorumAnswer, answer: &mut [u64; 2]) -> u6
 }
 
 pub fn tell_partition(partition: PartitionAnswer, answer: &mut [u64; 3]) -> u64
-    ensures* r_value { λ r. ⌜ r ≡ result_code (partition_told partition) ⌝ }
-    ensures* answer_after { λ _. ⌜ answer.new ≡ array (partition_told partition) answer.old ⌝ }
+    ensures r_value { result ≡ result_code (partition_told partition) }
+    ensures answer_after { answer.new ≡ array (partition_told partition) answer.old }
 {
     match partition {
         PartitionAnswer::Accepted(p) => {
@@ -83,8 +83,8 @@ pub fn tell_partition(partition: PartitionAnswer, answer: &mut [u64; 3]) -> u64
 }
 
 pub fn tell_committee(committee: CommitteeAnswer, answer: &mut [u64; 4]) -> u64
-    ensures* r_value { λ r. ⌜ r ≡ result_code (committee_told committee) ⌝ }
-    ensures* answer_after { λ _. ⌜ answer.new ≡ array (committee_told committee) answer.old ⌝ }
+    ensures r_value { result ≡ result_code (committee_told committee) }
+    ensures answer_after { answer.new ≡ array (committee_told committee) answer.old }
 {
     match committee {
         CommitteeAnswer::Accepted(c) => {
@@ -101,8 +101,8 @@ pub fn tell_committee(committee: CommitteeAnswer, answer: &mut [u64; 4]) -> u64
 }
 
 pub fn tell_order(order: ShuffleAnswer, answer: &mut [u64; 1]) -> u64
-    ensures* r_value { λ r. ⌜ r ≡ result_code (shuffle_told order) ⌝ }
-    ensures* answer_after { λ _. ⌜ answer.new ≡ array (shuffle_told order) answer.old ⌝ }
+    ensures r_value { result ≡ result_code (shuffle_told order) }
+    ensures answer_after { answer.new ≡ array (shuffle_told order) answer.old }
 {
     match order {
         ShuffleAnswer::Accepted(o) => {
@@ -115,7 +115,7 @@ pub fn tell_order(order: ShuffleAnswer, answer: &mut [u64; 1]) -> u64
 
 // The parent's id, or the number that is no id.
 fn parent_id(parent: Parent) -> u64
-    ensures* { λ r. ⌜ r ≡ parent_told parent ⌝ }
+    ensures { result ≡ parent_told parent }
 {
     match parent {
         Parent::None => 0xffff_ffff_ffff_ffff,
@@ -124,8 +124,8 @@ fn parent_id(parent: Parent) -> u64
 }
 
 pub fn tell_view(view: ViewAnswer, answer: &mut [u64; 4]) -> u64
-    ensures* r_value { λ r. ⌜ r ≡ result_code (view_told view) ⌝ }
-    ensures* answer_after { λ _. ⌜ answer.new ≡ array (view_told view) answer.old ⌝ }
+    ensures r_value { result ≡ result_code (view_told view) }
+    ensures answer_after { answer.new ≡ array (view_told view) answer.old }
 {
     match view {
         ViewAnswer::Accepted(v) => {
@@ -145,7 +145,7 @@ pub fn tell_view(view: ViewAnswer, answer: &mut [u64; 4]) -> u64
 
 // A seed carries nothing.
 pub fn tell_seed(seed: SeedAnswer) -> u64
-    ensures* { λ r. ⌜ r ≡ result_code (seed_told seed) ⌝ }
+    ensures { result ≡ result_code (seed_told seed) }
 {
     match seed {
         SeedAnswer::Accepted => 0,
@@ -154,8 +154,8 @@ pub fn tell_seed(seed: SeedAnswer) -> u64
 }
 
 pub fn tell_relay(relay: RelayAnswer, answer: &mut [u64; 1]) -> u64
-    ensures* r_value { λ r. ⌜ r ≡ result_code (relay_told relay) ⌝ }
-    ensures* answer_after { λ _. ⌜ answer.new ≡ array (relay_told relay) answer.old ⌝ }
+    ensures r_value { result ≡ result_code (relay_told relay) }
+    ensures answer_after { answer.new ≡ array (relay_told relay) answer.old }
 {
     match relay {
         RelayAnswer::Accepted(id) => {
@@ -168,8 +168,8 @@ pub fn tell_relay(relay: RelayAnswer, answer: &mut [u64; 1]) -> u64
 
 // Whether there is a stake, which is then stored.
 pub fn tell_stake(stake: CheckedStake, res: &mut u64) -> bool
-    ensures* r_value { λ r. ⌜ r ≡ is_stake stake ⌝ }
-    ensures* res_after { λ _. ⌜ res.new ≡ stake_after stake res.old ⌝ }
+    ensures r_value { result ≡ is_stake stake }
+    ensures res_after { res.new ≡ stake_after stake res.old }
 {
     match stake {
         CheckedStake::Some(s) => {
@@ -182,8 +182,8 @@ pub fn tell_stake(stake: CheckedStake, res: &mut u64) -> bool
 
 // Whether digits were written, and then how many.
 pub fn tell_formatted(formatted: Formatted, written: &mut usize) -> bool
-    ensures* r_value { λ r. ⌜ r ≡ is_written formatted ⌝ }
-    ensures* written_after { λ _. ⌜ written.new ≡ count_after formatted written.old ⌝ }
+    ensures r_value { result ≡ is_written formatted }
+    ensures written_after { written.new ≡ count_after formatted written.old }
 {
     match formatted {
         Formatted::Written(count) => {

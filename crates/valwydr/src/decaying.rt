@@ -19,9 +19,9 @@ pub extern "C" fn valwydr_decaying_acceptance_sample_one(
     cursor: usize,
     answer: &mut [u64; 3],
 ) -> u64
-    ensures* r_value { λ r. ⌜ r ≡ result_code (tried_told (sample_answer (drop cursor list.now) (one tries_allowed stakes.now counts.old max_samples (drop cursor list.now)))) ⌝ }
-    ensures* counts_after { λ _. ⌜ counts.new ≡ counts_after (one tries_allowed stakes.now counts.old max_samples (drop cursor list.now)) counts.old ⌝ }
-    ensures* answer_after { λ _. ⌜ answer.new ≡ array (tried_told (sample_answer (drop cursor list.now) (one tries_allowed stakes.now counts.old max_samples (drop cursor list.now)))) answer.old ⌝ }
+    ensures r_value { result ≡ result_code (tried_told (sample_answer (drop cursor list.now) (one tries_allowed stakes.now counts.old max_samples (drop cursor list.now)))) }
+    ensures counts_after { counts.new ≡ counts_after (one tries_allowed stakes.now counts.old max_samples (drop cursor list.now)) counts.old }
+    ensures answer_after { answer.new ≡ array (tried_told (sample_answer (drop cursor list.now) (one tries_allowed stakes.now counts.old max_samples (drop cursor list.now)))) answer.old }
 {
     let sampler = DecayingAcceptanceSampler::new(max_samples, tries_allowed, 1);
     answers::tell_tried(sampler.sample_one(stakes, counts, list, cursor), answer)
@@ -41,10 +41,10 @@ pub extern "C" fn valwydr_decaying_acceptance_sample_quorum(
     seats: &mut [u64],
     answer: &mut [u64; 2],
 ) -> u64
-    ensures* r_value { λ r. ⌜ r ≡ result_code (tried_quorum_told (quorum_answer (drop cursor list.now) (quorum k (length seats.old) tries_allowed stakes.now counts.old max_samples (drop cursor list.now)))) ⌝ }
-    ensures* counts_after { λ _. ⌜ counts.new ≡ buffer_after (quorum k (length seats.old) tries_allowed stakes.now counts.old max_samples (drop cursor list.now)) (zeros stakes.now) counts.old ⌝ }
-    ensures* seats_after { λ _. ⌜ seats.new ≡ buffer_after (quorum k (length seats.old) tries_allowed stakes.now counts.old max_samples (drop cursor list.now)) seat_ids seats.old ⌝ }
-    ensures* answer_after { λ _. ⌜ answer.new ≡ array (tried_quorum_told (quorum_answer (drop cursor list.now) (quorum k (length seats.old) tries_allowed stakes.now counts.old max_samples (drop cursor list.now)))) answer.old ⌝ }
+    ensures r_value { result ≡ result_code (tried_quorum_told (quorum_answer (drop cursor list.now) (quorum k (length seats.old) tries_allowed stakes.now counts.old max_samples (drop cursor list.now)))) }
+    ensures counts_after { counts.new ≡ buffer_after (quorum k (length seats.old) tries_allowed stakes.now counts.old max_samples (drop cursor list.now)) (zeros stakes.now) counts.old }
+    ensures seats_after { seats.new ≡ buffer_after (quorum k (length seats.old) tries_allowed stakes.now counts.old max_samples (drop cursor list.now)) seat_ids seats.old }
+    ensures answer_after { answer.new ≡ array (tried_quorum_told (quorum_answer (drop cursor list.now) (quorum k (length seats.old) tries_allowed stakes.now counts.old max_samples (drop cursor list.now)))) answer.old }
 {
     let sampler = DecayingAcceptanceSampler::new(max_samples, tries_allowed, k);
     answers::tell_tried_quorum(
@@ -56,7 +56,7 @@ pub extern "C" fn valwydr_decaying_acceptance_sample_quorum(
 // Sets all the counts to 0.
 #[unsafe(no_mangle)]
 pub extern "C" fn valwydr_decaying_acceptance_reset(counts: &mut [u32])
-    ensures* { λ _. ⌜ counts.new ≡ replicate (length counts.old) 0 ⌝ }
+    ensures { counts.new ≡ replicate (length counts.old) 0 }
 {
     let sampler = DecayingAcceptanceSampler::new(1.0, 1, 0);
     sampler.reset(counts);

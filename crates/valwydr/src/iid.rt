@@ -16,8 +16,8 @@ pub extern "C" fn valwydr_stake_weighted_sample(
     cursor: usize,
     answer: &mut [u64; 2],
 ) -> u64
-    ensures* r_value { λ r. ⌜ r ≡ result_code (sample_told (sample_answer (drop cursor list.now) (sample stakes.now (drop cursor list.now)))) ⌝ }
-    ensures* answer_after { λ _. ⌜ answer.new ≡ array (sample_told (sample_answer (drop cursor list.now) (sample stakes.now (drop cursor list.now)))) answer.old ⌝ }
+    ensures r_value { result ≡ result_code (sample_told (sample_answer (drop cursor list.now) (sample stakes.now (drop cursor list.now)))) }
+    ensures answer_after { answer.new ≡ array (sample_told (sample_answer (drop cursor list.now) (sample stakes.now (drop cursor list.now)))) answer.old }
 {
     let sampler = StakeWeightedSampler::new();
     answers::tell_sample(sampler.sample(stakes, list, cursor), answer)
@@ -33,9 +33,9 @@ pub extern "C" fn valwydr_iid_sample_quorum(
     seats: &mut [u64],
     answer: &mut [u64; 1],
 ) -> u64
-    ensures* r_value { λ r. ⌜ r ≡ result_code (quorum_told (quorum_answer (drop cursor list.now) (quorum stakes.now k (length seats.old) (drop cursor list.now)))) ⌝ }
-    ensures* seats_after { λ _. ⌜ seats.new ≡ buffer_after (quorum stakes.now k (length seats.old) (drop cursor list.now)) ids seats.old ⌝ }
-    ensures* answer_after { λ _. ⌜ answer.new ≡ array (quorum_told (quorum_answer (drop cursor list.now) (quorum stakes.now k (length seats.old) (drop cursor list.now)))) answer.old ⌝ }
+    ensures r_value { result ≡ result_code (quorum_told (quorum_answer (drop cursor list.now) (quorum stakes.now k (length seats.old) (drop cursor list.now)))) }
+    ensures seats_after { seats.new ≡ buffer_after (quorum stakes.now k (length seats.old) (drop cursor list.now)) ids seats.old }
+    ensures answer_after { answer.new ≡ array (quorum_told (quorum_answer (drop cursor list.now) (quorum stakes.now k (length seats.old) (drop cursor list.now)))) answer.old }
 {
     let sampler = IidQuorumSampler::new(StakeWeightedSampler::new(), k);
     answers::tell_quorum(sampler.sample_quorum(stakes, list, cursor, seats), answer)

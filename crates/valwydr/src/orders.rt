@@ -18,7 +18,7 @@ use weighted_shuffle::shuffle;
 // The nodes of a full tree that could hold so many weights, and those that have children: the answer.
 #[unsafe(no_mangle)]
 pub extern "C" fn valwydr_get_num_nodes_and_tree_size(count: usize, answer: &mut [u64; 2])
-    ensures* { λ _. ⌜ answer.new ≡ sizes_told (tree.sizes count) ⌝ }
+    ensures { answer.new ≡ sizes_told (tree.sizes count) }
 {
     let sizes = sizes::get_num_nodes_and_tree_size(count);
     *answer = [sizes.num_nodes as u64, sizes.tree_size as u64];
@@ -34,10 +34,10 @@ pub extern "C" fn valwydr_weighted_shuffle(
     nodes: &mut [Node],
     answer: &mut [u64; 1],
 ) -> u64
-    ensures* r_value { λ r. ⌜ r ≡ result_code (shuffle_told (shuffle_answer (drop cursor list.now) (shuffled weights.now (length order.old) (length nodes.old) (drop cursor list.now)))) ⌝ }
-    ensures* order_after { λ _. ⌜ order.new ≡ buffer_after (shuffled weights.now (length order.old) (length nodes.old) (drop cursor list.now)) (λ ps. ps) order.old ⌝ }
-    ensures* nodes_after { λ _. ⌜ nodes.new ≡ nodes_after (shuffled weights.now (length order.old) (length nodes.old) (drop cursor list.now)) (tree.sizes (length weights.now)).tree_size nodes.old ⌝ }
-    ensures* answer_after { λ _. ⌜ answer.new ≡ array (shuffle_told (shuffle_answer (drop cursor list.now) (shuffled weights.now (length order.old) (length nodes.old) (drop cursor list.now)))) answer.old ⌝ }
+    ensures r_value { result ≡ result_code (shuffle_told (shuffle_answer (drop cursor list.now) (shuffled weights.now (length order.old) (length nodes.old) (drop cursor list.now)))) }
+    ensures order_after { order.new ≡ buffer_after (shuffled weights.now (length order.old) (length nodes.old) (drop cursor list.now)) (λ ps. ps) order.old }
+    ensures nodes_after { nodes.new ≡ nodes_after (shuffled weights.now (length order.old) (length nodes.old) (drop cursor list.now)) (tree.sizes (length weights.now)).tree_size nodes.old }
+    ensures answer_after { answer.new ≡ array (shuffle_told (shuffle_answer (drop cursor list.now) (shuffled weights.now (length order.old) (length nodes.old) (drop cursor list.now)))) answer.old }
 {
     let shuffled = shuffle::shuffle(weights, list, cursor, order, nodes);
     answers::tell_order(shuffled, answer)
@@ -58,11 +58,11 @@ pub extern "C" fn valwydr_turbine_tree_new(
     children: &mut [u64],
     answer: &mut [u64; 4],
 ) -> u64
-    ensures* r_value { λ r. ⌜ r ≡ result_code (view_told (view_answer (drop cursor list.now) (view_call stakes.now fanout own_id list.now cursor order.old nodes.old children.old))) ⌝ }
-    ensures* order_after { λ _. ⌜ order.new ≡ buffer_after (view_call stakes.now fanout own_id list.now cursor order.old nodes.old children.old) (λ v. v.order) order.old ⌝ }
-    ensures* nodes_after { λ _. ⌜ nodes.new ≡ nodes_after (view_call stakes.now fanout own_id list.now cursor order.old nodes.old children.old) (tree.sizes (length stakes.now)).tree_size nodes.old ⌝ }
-    ensures* children_after { λ _. ⌜ children.new ≡ buffer_after (view_call stakes.now fanout own_id list.now cursor order.old nodes.old children.old) (λ v. v.children) children.old ⌝ }
-    ensures* answer_after { λ _. ⌜ answer.new ≡ array (view_told (view_answer (drop cursor list.now) (view_call stakes.now fanout own_id list.now cursor order.old nodes.old children.old))) answer.old ⌝ }
+    ensures r_value { result ≡ result_code (view_told (view_answer (drop cursor list.now) (view_call stakes.now fanout own_id list.now cursor order.old nodes.old children.old))) }
+    ensures order_after { order.new ≡ buffer_after (view_call stakes.now fanout own_id list.now cursor order.old nodes.old children.old) (λ v. v.order) order.old }
+    ensures nodes_after { nodes.new ≡ nodes_after (view_call stakes.now fanout own_id list.now cursor order.old nodes.old children.old) (tree.sizes (length stakes.now)).tree_size nodes.old }
+    ensures children_after { children.new ≡ buffer_after (view_call stakes.now fanout own_id list.now cursor order.old nodes.old children.old) (λ v. v.children) children.old }
+    ensures answer_after { answer.new ≡ array (view_told (view_answer (drop cursor list.now) (view_call stakes.now fanout own_id list.now cursor order.old nodes.old children.old))) answer.old }
 {
     let own = ValidatorIndex::new(own_id);
     let view = TurbineTree::new(stakes, fanout, own, list, cursor, order, nodes, children);
