@@ -9,12 +9,12 @@ cd "$root"
 # Proves the library and writes its archive; what rt says is shown where it fails.
 build_archive() {
     local said
-    said=$(rt staticlib valwydr 2>&1) || { echo "$said"; return 1; }
+    said=$(cd crates/valwydr && rt lib 2>&1) || { echo "$said"; return 1; }
     echo "${said##*$'\n'}"
 }
 
 [[ -n ${VALWYDR_LIB_DIR-} ]] || build_archive
-VALWYDR_LIB_DIR=$(realpath "${VALWYDR_LIB_DIR-target/staticlib}")
+VALWYDR_LIB_DIR=$(realpath "${VALWYDR_LIB_DIR-crates/valwydr/out}")
 export VALWYDR_LIB_DIR
 (cd bindings/rust && cargo fmt --check && cargo test --offline --quiet)
 bindings/c/check.sh "$VALWYDR_LIB_DIR/libvalwydr.a"

@@ -3,13 +3,13 @@
 #
 #   bindings/bench/run.sh [--rounds N] [--stack] [PART OF AN ENTRY'S NAME]
 #
-# With --stack it measures the stack that each entry needs instead. The archive is that of target/staticlib, or of the folder that
+# With --stack it measures the stack that each entry needs instead. The archive is that of crates/valwydr/out, or of the folder that
 # VALWYDR_LIB_DIR names; the commit's files are found as the oracle finds them.
 set -euo pipefail
 
 root=$(cd "$(dirname "${BASH_SOURCE[0]}")/../.." && pwd)
 cd "$root"
-VALWYDR_LIB_DIR=$(realpath "${VALWYDR_LIB_DIR-target/staticlib}")
+VALWYDR_LIB_DIR=$(realpath "${VALWYDR_LIB_DIR-crates/valwydr/out}")
 ALPENGLOW_SRC=$(realpath "${ALPENGLOW_SRC-../shared/docs/src}")
 export VALWYDR_LIB_DIR ALPENGLOW_SRC
 (cd "$ALPENGLOW_SRC" && sha256sum --check --strict --quiet "$root/oracle/sources.sha256")

@@ -1,10 +1,10 @@
 #!/usr/bin/env bash
-# Compiles test.c against an archive of the library and runs it: `check.sh [ARCHIVE]`, by default the archive that
-# `rt staticlib valwydr` writes. The header is also read as C++.
+# Compiles test.c against an archive of the library and runs it: `check.sh [ARCHIVE]`, by default the archive that `rt lib` writes in
+# crates/valwydr. The header is also read as C++.
 set -euo pipefail
 
 here=$(cd "$(dirname "${BASH_SOURCE[0]}")" && pwd)
-archive=${1-$here/../../target/staticlib/libvalwydr.a}
+archive=${1-$here/../../crates/valwydr/out/libvalwydr.a}
 [[ -f $archive ]] || { echo "check.sh: there is no archive '$archive'" >&2; exit 1; }
 
 built=$(mktemp -d)

@@ -1,7 +1,8 @@
 #!/usr/bin/env bash
 # Compares the static library with the oracle and the model: `check.sh [SECONDS] [PART...]`. SECONDS is how long `compare` goes on,
 # 20 where nothing is said; the parts are `faults`, `compare` and `memory`, all three where none is named.
-# The archive is libvalwydr.a in the folder that VALWYDR_LIB_DIR names, or else in target/staticlib.
+# The archive is libvalwydr.a in the folder that VALWYDR_LIB_DIR names, or else in crates/valwydr/out,
+# where `rt lib` writes it; `rt ci` removes it there.
 # What this machine lacks is said in a line and passed over.
 set -euo pipefail
 
@@ -9,7 +10,7 @@ root=$(cd "$(dirname "${BASH_SOURCE[0]}")/../.." && pwd)
 cd "$root"
 source oracle/lacks.sh
 here=bindings/compare
-archive=${VALWYDR_LIB_DIR-target/staticlib}/libvalwydr.a
+archive=${VALWYDR_LIB_DIR-crates/valwydr/out}/libvalwydr.a
 build=target/compare
 oracle=target/oracle/release/oracle
 # The functions between which and the driver faults.c stands.

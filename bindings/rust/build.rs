@@ -1,10 +1,10 @@
 //! Links the proved library: the archive in the folder that `VALWYDR_LIB_DIR` names, or else the
-//! one that `rt staticlib` writes.
+//! one that `rt lib` writes.
 
 use std::ffi::OsString;
 use std::path::{Path, PathBuf};
 use std::process::{Command, Output, exit};
-use std::{env, io};
+use std::{env, fs, io};
 
 /// The variable that names a folder with the archive.
 const LIB_DIR: &str = "VALWYDR_LIB_DIR";
@@ -35,27 +35,42 @@ fn given(folder: OsString) -> PathBuf {
     parent(&archive)
 }
 
-/// The repository's folder for archives, after `rt` has proved the library and written it there.
+/// The static library's own folder `out`, after `rt` has proved the library and written it there.
 fn built() -> PathBuf {
     let package = env::var_os("CARGO_MANIFEST_DIR").map(PathBuf::from);
     let root = parent(&parent(&package.unwrap_or_default()));
-    watch(&root.join("crates"));
-    watch(&root.join("crates.txt"));
-    let run = Command::new("rt")
-        .args(["staticlib", "valwydr"])
-        .current_dir(&root)
-        .output();
+    let library = root.join("crates/valwydr");
+    watch_sources(&root);
+    let run = Command::new("rt").arg("lib").current_dir(&library).output();
     match run {
-        Ok(output) if output.status.success() => root.join("target/staticlib"),
+        Ok(output) if output.status.success() => library.join("out"),
         Ok(output) => fail(&refused(&output)),
         Err(error) => fail(&missing(&error)),
+    }
+}
+
+/// Has cargo run this script again after a change in what the library is made from. What `rt`
+/// writes beside it, in `out`, is left out: each run changes it.
+fn watch_sources(root: &Path) {
+    watch(&root.join("crates.txt"));
+    for folder in fs::read_dir(root.join("crates"))
+        .into_iter()
+        .flatten()
+        .flatten()
+    {
+        for part in ["src", "specs", "proofs"] {
+            let part = folder.path().join(part);
+            if part.is_dir() {
+                watch(&part);
+            }
+        }
     }
 }
 
 /// What to say where `rt` ended with an error: its own words.
 fn refused(output: &Output) -> String {
     format!(
-        "'rt staticlib valwydr' ended with {}:\n{}{}",
+        "'rt lib' ended with {}:\n{}{}",
         output.status,
         String::from_utf8_lossy(&output.stdout),
         String::from_utf8_lossy(&output.stderr)
