@@ -1,4 +1,6 @@
 // What an answer tells a caller in C. Each function stores what an accepted answer carries, and gives 0 or the refusal's number.
+#![tactic(auto)]
+
 ghost use Rattle.std.specs.Prelude.{◌≡◌};
 ghost use Rattle.answers.specs.Told.{result_code, array, sample_told, quorum_told, tried_told, tried_quorum_told, partition_told, committee_told, shuffle_told, parent_told, view_told, seed_told, relay_told};
 ghost use Rattle.answers.specs.Stakes.{is_stake, stake_after, is_written, count_after};

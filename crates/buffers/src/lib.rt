@@ -1,4 +1,6 @@
 // Stores to the front of a lent buffer.
+#![tactic(auto)]
+
 ghost use Rattle.std.specs.Prelude.{◌≤◌, ◌≡◌, ◌++◌, length, drop};
 
 // Stores values; past them the buffer keeps what it held.

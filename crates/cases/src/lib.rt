@@ -1,12 +1,14 @@
 // Stored lists of cases: the numbers of a text, and the line that says how many cases agree.
 //
 // A number is a run of decimal digits. Every other byte separates numbers, so that a text may name what its numbers are.
+#![tactic(auto)]
+
 ghost use Rattle.std.specs.Prelude.{◌≡◌, ℕ, ◌-◌, ◌<◌, ◌≤◌, true, length, drop, slice_index};
 ghost use Rattle.io.specs.Counts.{IsPrefixLen};
 ghost use Rattle.cases.specs.Numbers.{is_digit, rest, number_at, Onward};
 ghost use Rattle.cases.specs.Lists.{numbers_at, list_at, numbers_says, Begins};
 
-use libc::{STDIN_FILENO, STDOUT_FILENO};
+use std::io::{Input, Print, Read};
 
 mod pieces;
 mod replay;
@@ -245,24 +247,35 @@ pub fn places(buffer: &[u64], asked: u64) -> usize
     }
 }
 
+// Reads until buf is full, the input ends or a read fails, and returns how many bytes it put at the start of buf.
+fn read_full(reader: &mut impl Read, buf: &mut [u8]) -> usize
+    ensures { IsPrefixLen result buf.new }
+{
+    let mut done = 0;
+    while done < buf.len() {
+        match reader.read(&mut buf[done..]) {
+            Ok(0) => break,
+            Ok(n) => done += n,
+            Err(_) => break,
+        }
+    }
+    done
+}
+
 // Reads the input to the front of text. One that leaves no place counts as empty, after a word on it.
-pub fn read_text(text: &mut [u8]) -> usize
+pub fn read_text(rt: &(impl Input + Print), text: &mut [u8]) -> usize
     ensures { IsPrefixLen result text.new }
 {
-    let n = io::read_full(STDIN_FILENO, text);
+    let n = read_full(&mut rt.reader(), text);
     if text.len() <= n {
-        io::write_all(STDOUT_FILENO, b"input too long\n");
+        let _ = rt.write_all(b"input too long\n");
         return 0;
     }
     n
 }
 
 // Prints how many cases of an operation agree.
-pub fn report(name: &[u8], agree: u64, cases: u64) {
-    io::write_all(STDOUT_FILENO, name);
-    io::write_all(STDOUT_FILENO, b": ");
-    io::print_decimal(STDOUT_FILENO, agree);
-    io::write_all(STDOUT_FILENO, b" of ");
-    io::print_decimal(STDOUT_FILENO, cases);
-    io::write_all(STDOUT_FILENO, b" agree\n");
+pub fn report(rt: &impl Print, name: &[u8], agree: u64, cases: u64) {
+    let _ = rt.write_all(name);
+    let _ = println!(rt; ": {agree} of {cases} agree");
 }

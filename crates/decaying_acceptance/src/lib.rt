@@ -3,6 +3,8 @@
 // The stakes are an epoch's list, the words of chance a list that is read from a cursor on. How often each validator was sampled
 // before stands in a list of counts that the caller lends. A call checks its input, then draws, and only then writes to what it
 // was lent.
+#![tactic(auto)]
+
 mod checks;
 mod one;
 mod quorum;

@@ -1,10 +1,11 @@
 // Replays stored cases of the sampler of `decaying_acceptance`, and prints for each operation how many agree.
+#![tactic(auto)]
+
 ghost use Rattle.std.specs.Prelude.{◌≤◌, ◌≡◌};
 ghost use Rattle.io.specs.Counts.{IsPrefixLen};
 
 use cases::{Expected, Verdict};
 use decaying_acceptance::{DecayingAcceptanceSampler, QuorumAnswer, SampleAnswer};
-use libc::STDOUT_FILENO;
 
 // How many stakes, counts and words a case has, and what it expects.
 #[derive(Drop)]
@@ -312,16 +313,16 @@ fn replay_cases(text: &[u8], agree: &mut [u64; 3], count: &mut [u64; 3]) -> bool
     true
 }
 
-fn main() {
+fn main(rt: HostRuntime) {
     let mut text = [0u8; 262144];
-    let n = cases::read_text(&mut text);
+    let n = cases::read_text(&rt, &mut text);
     let mut agree = [0u64; 3];
     let mut count = [0u64; 3];
     if !replay_cases(&text[..n], &mut agree, &mut count) {
-        io::write_all(STDOUT_FILENO, b"malformed case\n");
+        let _ = println!(rt; "malformed case");
         return;
     }
-    cases::report(b"sample_one", agree[0], count[0]);
-    cases::report(b"sample_quorum", agree[1], count[1]);
-    cases::report(b"reset", agree[2], count[2]);
+    cases::report(&rt, b"sample_one", agree[0], count[0]);
+    cases::report(&rt, b"sample_quorum", agree[1], count[1]);
+    cases::report(&rt, b"reset", agree[2], count[2]);
 }

@@ -1,4 +1,6 @@
 // Replays stored cases of the draws, and prints for each operation how many agree.
+#![tactic(auto)]
+
 ghost use Rattle.std.specs.Prelude.{◌≡◌, ◌<◌, ◌≤◌, length};
 ghost use Rattle.laws.specs.Sums.{total};
 
@@ -8,7 +10,6 @@ use draws::fraction::Fraction;
 use draws::shuffle::Shuffled;
 use draws::weighted::Weighted;
 use draws::{below, fraction, shuffle, weighted};
-use libc::STDOUT_FILENO;
 use types::{CheckedStake, Stake};
 use words::Words;
 
@@ -207,17 +208,17 @@ fn replay_cases(text: &[u8], agree: &mut [u64; 4], count: &mut [u64; 4]) -> bool
     true
 }
 
-fn main() {
+fn main(rt: HostRuntime) {
     let mut text = [0u8; 262144];
-    let n = cases::read_text(&mut text);
+    let n = cases::read_text(&rt, &mut text);
     let mut agree = [0u64; 4];
     let mut count = [0u64; 4];
     if !replay_cases(&text[..n], &mut agree, &mut count) {
-        io::write_all(STDOUT_FILENO, b"malformed case\n");
+        let _ = println!(rt; "malformed case");
         return;
     }
-    cases::report(b"draw_below", agree[0], count[0]);
-    cases::report(b"draw_fraction", agree[1], count[1]);
-    cases::report(b"draw_weighted", agree[2], count[2]);
-    cases::report(b"shuffle_list", agree[3], count[3]);
+    cases::report(&rt, b"draw_below", agree[0], count[0]);
+    cases::report(&rt, b"draw_fraction", agree[1], count[1]);
+    cases::report(&rt, b"draw_weighted", agree[2], count[2]);
+    cases::report(&rt, b"shuffle_list", agree[3], count[3]);
 }

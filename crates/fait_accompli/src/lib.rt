@@ -1,4 +1,6 @@
 // The sampler FA1: fixed seats in proportion to stake, and the rest from a fallback.
+#![tactic(auto)]
+
 mod answers;
 mod checks;
 mod further;

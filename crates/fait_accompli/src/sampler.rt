@@ -12,7 +12,7 @@ use refusals::{Refusal, Summed};
 
 // Where the seats that are not fixed come from, with the size of the committee: bins, one seat from each, or plain draws. How many of
 // the seats they are is not said here, since it follows from the list.
-#[derive(Drop)]
+#[derive(Clone, Copy, Drop)]
 pub enum Fallback {
     Bins(usize),
     Draws(usize),

@@ -1,9 +1,10 @@
 // Replays stored cases of the sampler of `fait_accompli`, and prints for each fallback how many agree.
+#![tactic(auto)]
+
 ghost use Rattle.std.specs.Prelude.{◌≤◌, ◌≡◌};
 
 use cases::{Expected, Lent, Verdict};
 use fait_accompli::{CommitteeAnswer, FaitAccompli1Sampler};
-use libc::STDOUT_FILENO;
 
 // The sampler of committees of k with the fallback of that number: 1 for a partition, 2 for draws by stake.
 fn sampler_of(fallback: u64, k: u64) -> FaitAccompli1Sampler {
@@ -162,15 +163,15 @@ fn replay_cases(text: &[u8], agree: &mut [u64; 2], count: &mut [u64; 2]) -> bool
     true
 }
 
-fn main() {
+fn main(rt: HostRuntime) {
     let mut text = [0u8; 262144];
-    let n = cases::read_text(&mut text);
+    let n = cases::read_text(&rt, &mut text);
     let mut agree = [0u64; 2];
     let mut count = [0u64; 2];
     if !replay_cases(&text[..n], &mut agree, &mut count) {
-        io::write_all(STDOUT_FILENO, b"malformed case\n");
+        let _ = println!(rt; "malformed case");
         return;
     }
-    cases::report(b"partition_fallback", agree[0], count[0]);
-    cases::report(b"stake_weighted_fallback", agree[1], count[1]);
+    cases::report(&rt, b"partition_fallback", agree[0], count[0]);
+    cases::report(&rt, b"stake_weighted_fallback", agree[1], count[1]);
 }

@@ -1,6 +1,6 @@
 -- One weighted draw from each bin is a value for each bin, and then the piece that the value chooses among all pieces.
 use Prim.Native.Nat.{ℕ, zero, suc, ◌+◌, ◌*◌, ◌≤◌, ◌<◌}
-use mathlib.Core.Path.{◌≡◌, refl, sym, ap, ap₂, ◌∙◌}
+use mathlib.Core.Path.{◌≡◌, refl, sym, subst, ap, ap₂, ◌∙◌}
 use mathlib.Core.List.{List, [], ◌∷◌, ◌++◌, map, append_assoc}
 use native.Mathlib.Omega.{arith}
 use lib.ListN.{length, get_or, take, length-map, length-append, get_or-append}
@@ -86,8 +86,10 @@ choices_step : (cap b j : ℕ) (xs : List Share) (v : ℕ) (vs bs bv : List ℕ)
 choices_step cap b j xs v vs bs bv same l t ih =
     let rest = pieces (j + 1) (fill cap b (left cap xs)) in
     let bin = taken cap xs in
-    rw (numbered_stakes j bin rest, numbered_validators j bin rest, ← t)
-    (ap₂ ◌∷◌ (here bs bv same bin (stakes_of rest) (validators_of rest) v l) ih)
+    let whole = fill cap (suc b) xs in
+    subst (λ (ws : List ℕ). ids (choices whole (v ∷ vs)) ≡ seats_at cap (bv ++ ws) (bs ++ stakes_of (pieces j whole)) j (v ∷ vs)) (sym (numbered_validators j bin rest))
+    (subst (λ (ws : List ℕ). ids (choices whole (v ∷ vs)) ≡ seats_at cap (bv ++ (map (λ x. x.validator) bin ++ validators_of rest)) (bs ++ ws) j (v ∷ vs)) (sym (numbered_stakes j bin rest))
+    (rw (← t) (ap₂ ◌∷◌ (here bs bv same bin (stakes_of rest) (validators_of rest) v l) ih)))
 
 -- all values, from bin j on
 choices_from : (cap b j : ℕ) (xs : List Share) (vs bs bv : List ℕ) → length bv ≡ length bs → length vs ≡ b → Low cap b (bin_total xs) vs → total bs ≡ j * cap →
@@ -102,12 +104,13 @@ choices_from cap (suc b) j xs (v ∷ w ∷ vs) bs bv same l h t =
     let rest = pieces (j + 1) (fill cap b (left cap xs)) in
     let full : cap < bin_total xs = omega (arith, sums_at cap (suc b) (bin_total xs) 1 (omega arith), h 1 (omega arith)) in
     choices_step cap b j xs v (w ∷ vs) bs bv same (omega (arith, taken-total cap xs, h 0 (omega arith))) t
-    (rw (← append_assoc bs (share_stakes bin) (stakes_of rest), ← append_assoc bv (map (λ x. x.validator) bin) (validators_of rest))
+    (subst (λ (ys : List ℕ). ids (choices (fill cap b (left cap xs)) (w ∷ vs)) ≡ seats_at cap (bv ++ (map (λ x. x.validator) bin ++ validators_of rest)) ys (j + 1) (w ∷ vs)) (append_assoc bs (share_stakes bin) (stakes_of rest))
+    (subst (λ (ys : List ℕ). ids (choices (fill cap b (left cap xs)) (w ∷ vs)) ≡ seats_at cap ys ((bs ++ share_stakes bin) ++ stakes_of rest) (j + 1) (w ∷ vs)) (append_assoc bv (map (λ x. x.validator) bin) (validators_of rest))
     (choices_from cap b (j + 1) (left cap xs) (w ∷ vs) (bs ++ share_stakes bin) (bv ++ map (λ x. x.validator) bin)
     (omega (arith, length-append bs (share_stakes bin), length-append bv (map (λ (x : Share). x.validator) bin), length-map bin (λ (x : Share). x.stake), length-map bin (λ (x : Share). x.validator)))
     (omega arith)
     (λ i q. rw (left-total cap xs) (h (suc i) (omega arith)))
-    (omega (arith, total-append bs (share_stakes bin), taken-total cap xs))))
+    (omega (arith, total-append bs (share_stakes bin), taken-total cap xs)))))
 
 -- the seats that values choose in their bins are those that they choose among all pieces
 pub choices_all : (cap b : ℕ) (xs : List Share) (vs : List ℕ) → length vs ≡ b → Low cap b (bin_total xs) vs →

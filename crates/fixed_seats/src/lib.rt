@@ -1,4 +1,6 @@
 // Fixed seats and kept stake: exact floors without a product past 64 bits.
+#![tactic(auto)]
+
 ghost use Rattle.std.specs.Prelude.{◌+◌, ◌-◌, ◌*◌, ◌/◌, ◌%◌, ◌≤◌, ◌<◌, ◌≡◌, ◌++◌, length, drop};
 ghost use Rattle.laws.specs.Sums.{total};
 ghost use Rattle.fixed_seats.specs.Fixed.{fixed, fixed_of, kept_of, repeated};

@@ -6,13 +6,13 @@ ghost use Rattle.nodes.specs.Walks.{below, root};
 
 // One sum for each of sixteen sub-trees.
 #[repr(C)]
-#[derive(Drop)]
+#[derive(Clone, Copy, Drop)]
 pub struct Node {
     pub sums: [u64; 16],
 }
 
 // Where in a node a value falls, what is left of it there, and the sum at that place.
-#[derive(Drop)]
+#[derive(Clone, Copy, Drop)]
 pub struct Field {
     pub offset: usize,
     pub val: u64,
@@ -20,7 +20,7 @@ pub struct Field {
 }
 
 // How far a search has come: an index, what is left of the value there, and the sum of its sub-tree.
-#[derive(Drop)]
+#[derive(Clone, Copy, Drop)]
 pub struct Found {
     pub index: usize,
     pub val: u64,

@@ -1,4 +1,6 @@
 // Nodes that a program lends to the call it tries: a run of 280, which hold the same before, and what the call left of it.
+#![tactic(auto)]
+
 ghost use Rattle.std.specs.Prelude.{◌≡◌, take, drop, replicate};
 ghost use Rattle.nodes_cases.specs.Held.{every, every_sum, zeros_then};
 

@@ -2,6 +2,8 @@
 //
 // A call checks its input, shuffles the list, draws a value for each bin, and only then fills the bins and writes to the buffers that it
 // was lent: the sum of each bin is known from the capacity and the total, so the values need no pieces.
+#![tactic(auto)]
+
 mod answers;
 mod checks;
 mod quorum;

@@ -1,8 +1,9 @@
 // Replays stored cases of the sampler of `partition`, and prints how many agree.
+#![tactic(auto)]
+
 ghost use Rattle.std.specs.Prelude.{◌≤◌, ◌≡◌};
 
 use cases::{Expected, Lent, Verdict};
-use libc::STDOUT_FILENO;
 use partition::{PartitionAnswer, PartitionSampler};
 
 // An answer, against the words read, how many pieces there are, and what was found of the lent buffers.
@@ -150,14 +151,14 @@ fn replay_cases(text: &[u8], agree: &mut [u64; 1], count: &mut [u64; 1]) -> bool
     true
 }
 
-fn main() {
+fn main(rt: HostRuntime) {
     let mut text = [0u8; 262144];
-    let n = cases::read_text(&mut text);
+    let n = cases::read_text(&rt, &mut text);
     let mut agree = [0u64; 1];
     let mut count = [0u64; 1];
     if !replay_cases(&text[..n], &mut agree, &mut count) {
-        io::write_all(STDOUT_FILENO, b"malformed case\n");
+        let _ = println!(rt; "malformed case");
         return;
     }
-    cases::report(b"sample_quorum", agree[0], count[0]);
+    cases::report(&rt, b"sample_quorum", agree[0], count[0]);
 }

@@ -1,4 +1,6 @@
 // Reasons to turn a call down: the number of each, and the tests of their conditions.
+#![tactic(auto)]
+
 ghost use Rattle.std.specs.Prelude.{◌*◌, ◌-◌, ◌≤◌, ◌<◌, ◌^◌, ◌≡◌, length};
 ghost use Rattle.laws.specs.Sums.{total};
 ghost use Rattle.refusals.specs.Refusals.{lowest, over_or_zero, list_length, size, committee_size, empty_bin, tries_allowed, max_samples_check, fanout_limit, not_below, sum_checks, count_limit};

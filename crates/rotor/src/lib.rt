@@ -1,4 +1,6 @@
 // Rotor: the relay of each shred of a slice.
+#![tactic(auto)]
+
 ghost use Rattle.std.specs.Prelude.{◌≡◌};
 ghost use Rattle.rotor.specs.Relay.{relay_answer};
 

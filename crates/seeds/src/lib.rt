@@ -1,6 +1,8 @@
 // Seeds: the 32 bytes that the words of a Turbine tree or of a Rotor committee are made from.
 //
 // Every seed is four numbers, each in 8 bytes, big-endian.
+#![tactic(auto)]
+
 ghost use Rattle.std.specs.Prelude.{◌-◌, ◌*◌, ◌/◌, ◌%◌, ◌^◌, ◌<◌, ◌≡◌};
 ghost use Rattle.seeds.specs.Seeds.{numbers, turbine_seed, rotor_seed, seed_answer, seed_after};
 

@@ -10,7 +10,7 @@ use words::Words;
 
 // The state of a shuffle: the words still to come, the sizes of the list and of its tree, the weight left, the value drawn below it,
 // how many positions are drawn, the refusal's number or 0, and whether a value is drawn.
-#[derive(Drop)]
+#[derive(Clone, Copy, Drop)]
 pub struct Drawing {
     pub words: Words,
     pub n: usize,

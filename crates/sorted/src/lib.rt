@@ -1,9 +1,11 @@
 // The search of a sorted list, without a branch that a processor would have to guess: a step adds up comparisons.
+#![tactic(auto)]
+
 ghost use Rattle.std.specs.Prelude.{◌+◌, ◌*◌, ◌-◌, ◌≤◌, ◌<◌, ◌≡◌, cond, ltb, length};
 ghost use Rattle.sorted.specs.Sorted.{Sorted, first_above, FirstAboveIn};
 
 // Where a search has come: the place is from low to low + size.
-#[derive(Drop)]
+#[derive(Clone, Copy, Drop)]
 struct Window {
     low: usize,
     size: usize,

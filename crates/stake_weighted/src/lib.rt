@@ -2,6 +2,8 @@
 //
 // The stakes are an epoch's list, the words of chance a list that is read from a cursor on. A call checks its input, then draws,
 // and only then writes to the buffer that it was lent.
+#![tactic(auto)]
+
 ghost use Rattle.std.specs.Prelude.{◌≤◌, ◌<◌, ◌≡◌, length, drop};
 ghost use Rattle.laws.specs.Sums.{total, running_sums};
 ghost use Rattle.refusals.specs.declared.Refusal.TheVariants.{None};

@@ -1,8 +1,9 @@
 // Replays stored cases of the samplers of `stake_weighted`, and prints for each operation how many agree.
+#![tactic(auto)]
+
 ghost use Rattle.std.specs.Prelude.{◌≤◌, ◌≡◌};
 
 use cases::{Expected, Verdict};
-use libc::STDOUT_FILENO;
 use stake_weighted::{IidQuorumSampler, QuorumAnswer, SampleAnswer, StakeWeightedSampler};
 
 // One validator, against its id and the words read.
@@ -141,15 +142,15 @@ fn replay_cases(text: &[u8], agree: &mut [u64; 2], count: &mut [u64; 2]) -> bool
     true
 }
 
-fn main() {
+fn main(rt: HostRuntime) {
     let mut text = [0u8; 262144];
-    let n = cases::read_text(&mut text);
+    let n = cases::read_text(&rt, &mut text);
     let mut agree = [0u64; 2];
     let mut count = [0u64; 2];
     if !replay_cases(&text[..n], &mut agree, &mut count) {
-        io::write_all(STDOUT_FILENO, b"malformed case\n");
+        let _ = println!(rt; "malformed case");
         return;
     }
-    cases::report(b"sample", agree[0], count[0]);
-    cases::report(b"sample_quorum", agree[1], count[1]);
+    cases::report(&rt, b"sample", agree[0], count[0]);
+    cases::report(&rt, b"sample_quorum", agree[1], count[1]);
 }

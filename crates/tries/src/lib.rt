@@ -1,4 +1,6 @@
 // The tries of one seat.
+#![tactic(auto)]
+
 ghost use Rattle.std.specs.Prelude.{◌≤◌, ◌<◌, ◌≡◌, length};
 ghost use Rattle.laws.specs.Sums.{total, running_sums};
 ghost use Rattle.words.specs.Stream.{stream};

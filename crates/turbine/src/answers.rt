@@ -3,7 +3,7 @@ use crate::turbine_tree::TurbineTree;
 use types::ValidatorIndex;
 
 // Who sends a validator its shreds. The root has no parent.
-#[derive(Drop)]
+#[derive(Clone, Copy, Drop)]
 pub enum Parent {
     None,
     Some(ValidatorIndex),

@@ -1,4 +1,6 @@
 // The Turbine tree, as one validator sees it.
+#![tactic(auto)]
+
 pub mod answers;
 mod checks;
 mod neighborhood;

@@ -18,7 +18,7 @@ use weighted_shuffle::shuffle;
 pub const DEFAULT_FANOUT: usize = 200;
 
 // View of the Turbine tree from a specific validator's perspective. The children stand in the buffer that was lent for them.
-#[derive(Drop)]
+#[derive(Clone, Copy, Drop)]
 pub struct TurbineTree {
     root: ValidatorIndex,
     parent: Parent,

@@ -1,9 +1,10 @@
 // Replays stored cases of Turbine views, of seeds and of relays, and prints for each function how many agree.
+#![tactic(auto)]
+
 ghost use Rattle.std.specs.Prelude.{◌≤◌, ◌≡◌};
 ghost use Rattle.io.specs.Counts.{IsPrefixLen};
 
 use cases::{Expected, Verdict};
-use libc::STDOUT_FILENO;
 use rotor::{RelayAnswer, TOTAL_SHREDS};
 use seeds::SeedAnswer;
 use turbine::answers::{Parent, View, ViewAnswer};
@@ -296,17 +297,22 @@ fn replay_cases(text: &[u8], agree: &mut [u64; 4], count: &mut [u64; 4]) -> bool
     true
 }
 
-fn main() {
-    let mut text = [0u8; 524288];
-    let n = cases::read_text(&mut text);
+// Room for the text.
+fn room() -> [u8; 524288] {
+    [0u8; 524288]
+}
+
+fn main(rt: HostRuntime) {
+    let mut text = room();
+    let n = cases::read_text(&rt, &mut text);
     let mut agree = [0u64; 4];
     let mut count = [0u64; 4];
     if !replay_cases(&text[..n], &mut agree, &mut count) {
-        io::write_all(STDOUT_FILENO, b"malformed case\n");
+        let _ = println!(rt; "malformed case");
         return;
     }
-    cases::report(b"view", agree[0], count[0]);
-    cases::report(b"turbine_seed", agree[1], count[1]);
-    cases::report(b"rotor_seed", agree[2], count[2]);
-    cases::report(b"relay", agree[3], count[3]);
+    cases::report(&rt, b"view", agree[0], count[0]);
+    cases::report(&rt, b"turbine_seed", agree[1], count[1]);
+    cases::report(&rt, b"rotor_seed", agree[2], count[2]);
+    cases::report(&rt, b"relay", agree[3], count[3]);
 }

@@ -1,4 +1,6 @@
 // Two wrappers of u64: the stake of a validator, and its index in the list of validators.
+#![tactic(auto)]
+
 mod decimal;
 mod ordering;
 pub mod stake;

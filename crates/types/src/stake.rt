@@ -9,7 +9,7 @@ use crate::decimal::{Formatted, write_decimal};
 use crate::ordering::{Ordering, compare};
 
 // Validator stake.
-#[derive(Drop)]
+#[derive(Clone, Copy, Drop)]
 pub struct Stake(u64);
 
 // What arithmetic on stakes gives.
@@ -101,7 +101,7 @@ impl Stake {
         let mut i = 0;
         while i < stakes.len() {
             let stake = stakes[i];
-            sum = std::num::wrapping_add_u64(sum, stake);
+            sum = sum.wrapping_add(stake);
             carries += (sum < stake) as u64;
             i += 1;
         }

@@ -7,7 +7,7 @@ use crate::decimal::{Formatted, write_decimal};
 use crate::ordering::{Ordering, compare};
 
 // Index of a validator in an epoch's list of validators.
-#[derive(Drop)]
+#[derive(Clone, Copy, Drop)]
 pub struct ValidatorIndex(u64);
 
 impl ValidatorIndex {

@@ -1,8 +1,9 @@
 // Replays stored cases of the weighted shuffle, and prints for each function how many agree.
+#![tactic(auto)]
+
 ghost use Rattle.std.specs.Prelude.{◌≤◌, ◌≡◌};
 
 use cases::{Expected, Verdict};
-use libc::STDOUT_FILENO;
 use shuffle_steps::begin;
 use tree::sizes;
 use weighted_shuffle::answers::ShuffleAnswer;
@@ -214,16 +215,21 @@ fn replay_cases(text: &[u8], agree: &mut [u64; 3], count: &mut [u64; 3]) -> bool
     true
 }
 
-fn main() {
-    let mut text = [0u8; 524288];
-    let n = cases::read_text(&mut text);
+// Room for the text.
+fn room() -> [u8; 524288] {
+    [0u8; 524288]
+}
+
+fn main(rt: HostRuntime) {
+    let mut text = room();
+    let n = cases::read_text(&rt, &mut text);
     let mut agree = [0u64; 3];
     let mut count = [0u64; 3];
     if !replay_cases(&text[..n], &mut agree, &mut count) {
-        io::write_all(STDOUT_FILENO, b"malformed case\n");
+        let _ = println!(rt; "malformed case");
         return;
     }
-    cases::report(b"get_num_nodes_and_tree_size", agree[0], count[0]);
-    cases::report(b"begin", agree[1], count[1]);
-    cases::report(b"shuffle", agree[2], count[2]);
+    cases::report(&rt, b"get_num_nodes_and_tree_size", agree[0], count[0]);
+    cases::report(&rt, b"begin", agree[1], count[1]);
+    cases::report(&rt, b"shuffle", agree[2], count[2]);
 }

@@ -2,6 +2,8 @@
 //
 // Whoever draws takes the list and a lent `Words`. What is still to come is `stream list words`, a list of words; contracts speak of
 // that alone, and nothing outside this crate looks into a `Words`.
+#![tactic(auto)]
+
 ghost use Rattle.std.specs.Prelude.{◌≡◌, length, drop};
 ghost use Rattle.words.specs.Outcome.{read, left_after};
 ghost use Rattle.words.specs.Stream.{stream};

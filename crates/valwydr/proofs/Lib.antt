@@ -1,2 +1,0 @@
-pub mod RefCalls
-pub mod TellCalls
