@@ -1,13 +1,3 @@
-pub mod Again
-pub mod CallLent
-pub mod While
-pub mod Cells
-pub mod Spread
-pub mod LocalArray
-pub mod InPlace
-pub mod Says
 pub mod NodeLaws
 pub mod WalkLaws
 pub mod RunLaws
-pub mod RunCalls
-pub mod ExchangeCalls

@@ -3,5 +3,3 @@ pub mod ChildLaws
 pub mod AnswerLaws
 pub mod CallLaws
 pub mod TreeLaws
-pub mod ViewCalls
-pub mod EntryCalls
