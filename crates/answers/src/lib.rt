@@ -16,7 +16,7 @@ use types::{CheckedStake, Formatted};
 use weighted_shuffle::answers::ShuffleAnswer;
 
 pub fn tell_sample(sample: SampleAnswer, answer: &mut [u64; 2]) -> u64
-    ensures r_value { result ≡ result_code (sample_told sample) }
+    ensures value { result ≡ result_code (sample_told sample) }
     ensures answer_after { answer.new ≡ array (sample_told sample) answer.old }
 {
     match sample {
@@ -29,7 +29,7 @@ pub fn tell_sample(sample: SampleAnswer, answer: &mut [u64; 2]) -> u64
 }
 
 pub fn tell_quorum(quorum: QuorumAnswer, answer: &mut [u64; 1]) -> u64
-    ensures r_value { result ≡ result_code (quorum_told quorum) }
+    ensures value { result ≡ result_code (quorum_told quorum) }
     ensures answer_after { answer.new ≡ array (quorum_told quorum) answer.old }
 {
     match quorum {
@@ -42,7 +42,7 @@ pub fn tell_quorum(quorum: QuorumAnswer, answer: &mut [u64; 1]) -> u64
 }
 
 pub fn tell_tried(sample: TriedAnswer, answer: &mut [u64; 3]) -> u64
-    ensures r_value { result ≡ result_code (tried_told sample) }
+    ensures value { result ≡ result_code (tried_told sample) }
     ensures answer_after { answer.new ≡ array (tried_told sample) answer.old }
 {
     match sample {
@@ -55,7 +55,7 @@ pub fn tell_tried(sample: TriedAnswer, answer: &mut [u64; 3]) -> u64
 }
 
 pub fn tell_tried_quorum(quorum: TriedQuorumAnswer, answer: &mut [u64; 2]) -> u64
-    ensures r_value { result ≡ result_code (tried_quorum_told quorum) }
+    ensures value { result ≡ result_code (tried_quorum_told quorum) }
     ensures answer_after { answer.new ≡ array (tried_quorum_told quorum) answer.old }
 {
     match quorum {
@@ -68,7 +68,7 @@ pub fn tell_tried_quorum(quorum: TriedQuorumAnswer, answer: &mut [u64; 2]) -> u6
 }
 
 pub fn tell_partition(partition: PartitionAnswer, answer: &mut [u64; 3]) -> u64
-    ensures r_value { result ≡ result_code (partition_told partition) }
+    ensures value { result ≡ result_code (partition_told partition) }
     ensures answer_after { answer.new ≡ array (partition_told partition) answer.old }
 {
     match partition {
@@ -85,7 +85,7 @@ pub fn tell_partition(partition: PartitionAnswer, answer: &mut [u64; 3]) -> u64
 }
 
 pub fn tell_committee(committee: CommitteeAnswer, answer: &mut [u64; 4]) -> u64
-    ensures r_value { result ≡ result_code (committee_told committee) }
+    ensures value { result ≡ result_code (committee_told committee) }
     ensures answer_after { answer.new ≡ array (committee_told committee) answer.old }
 {
     match committee {
@@ -103,7 +103,7 @@ pub fn tell_committee(committee: CommitteeAnswer, answer: &mut [u64; 4]) -> u64
 }
 
 pub fn tell_order(order: ShuffleAnswer, answer: &mut [u64; 1]) -> u64
-    ensures r_value { result ≡ result_code (shuffle_told order) }
+    ensures value { result ≡ result_code (shuffle_told order) }
     ensures answer_after { answer.new ≡ array (shuffle_told order) answer.old }
 {
     match order {
@@ -126,7 +126,7 @@ fn parent_id(parent: Parent) -> u64
 }
 
 pub fn tell_view(view: ViewAnswer, answer: &mut [u64; 4]) -> u64
-    ensures r_value { result ≡ result_code (view_told view) }
+    ensures value { result ≡ result_code (view_told view) }
     ensures answer_after { answer.new ≡ array (view_told view) answer.old }
 {
     match view {
@@ -156,7 +156,7 @@ pub fn tell_seed(seed: SeedAnswer) -> u64
 }
 
 pub fn tell_relay(relay: RelayAnswer, answer: &mut [u64; 1]) -> u64
-    ensures r_value { result ≡ result_code (relay_told relay) }
+    ensures value { result ≡ result_code (relay_told relay) }
     ensures answer_after { answer.new ≡ array (relay_told relay) answer.old }
 {
     match relay {
@@ -169,13 +169,13 @@ pub fn tell_relay(relay: RelayAnswer, answer: &mut [u64; 1]) -> u64
 }
 
 // Whether there is a stake, which is then stored.
-pub fn tell_stake(stake: CheckedStake, res: &mut u64) -> bool
-    ensures r_value { result ≡ is_stake stake }
-    ensures res_after { res.new ≡ stake_after stake res.old }
+pub fn tell_stake(stake: CheckedStake, stored: &mut u64) -> bool
+    ensures value { result ≡ is_stake stake }
+    ensures stored_after { stored.new ≡ stake_after stake stored.old }
 {
     match stake {
         CheckedStake::Some(s) => {
-            *res = s.inner();
+            *stored = s.inner();
             true
         }
         CheckedStake::None => false,
@@ -184,7 +184,7 @@ pub fn tell_stake(stake: CheckedStake, res: &mut u64) -> bool
 
 // Whether digits were written, and then how many.
 pub fn tell_formatted(formatted: Formatted, written: &mut usize) -> bool
-    ensures r_value { result ≡ is_written formatted }
+    ensures value { result ≡ is_written formatted }
     ensures written_after { written.new ≡ count_after formatted written.old }
 {
     match formatted {

@@ -20,7 +20,7 @@ pub use replay::{
 };
 
 // A number that was read, and the place after it.
-#[derive(Drop)]
+#[derive(Clone, Copy, Drop)]
 pub struct Number {
     pub found: bool,
     pub value: u64,
@@ -28,14 +28,14 @@ pub struct Number {
 }
 
 // Whether numbers were copied, and how many.
-#[derive(Drop)]
+#[derive(Clone, Copy, Drop)]
 pub struct Copied {
     pub fits: bool,
     pub count: usize,
 }
 
 // Whether all numbers that were asked for are there, how many they are, and the place after them. None counts where one is missing.
-#[derive(Drop)]
+#[derive(Clone, Copy, Drop)]
 pub struct Numbers {
     pub found: bool,
     pub count: usize,

@@ -7,7 +7,7 @@ use crate::{
 };
 
 // How many stakes and words of each list a case has, and what it expects.
-#[derive(Drop)]
+#[derive(Clone, Copy, Drop)]
 pub struct TwoLists {
     pub stakes: usize,
     pub first: usize,
@@ -16,7 +16,7 @@ pub struct TwoLists {
 }
 
 // Whether what was lent is as expected, how many numbers of it were expected, and what is expected after them.
-#[derive(Drop)]
+#[derive(Clone, Copy, Drop)]
 pub struct Lent {
     pub same: bool,
     pub count: usize,
@@ -34,9 +34,9 @@ pub fn read_two_lists(
     wanted: &mut [u64],
 ) -> TwoLists
     ensures at_le_next { at ≤ result.expected.next }
-    ensures prefix_len { IsPrefixLen result.stakes stakes.new }
-    ensures prefix_len_2 { IsPrefixLen result.first first.new }
-    ensures prefix_len_3 { IsPrefixLen result.second second.new }
+    ensures stakes_prefix { IsPrefixLen result.stakes stakes.new }
+    ensures first_prefix { IsPrefixLen result.first first.new }
+    ensures second_prefix { IsPrefixLen result.second second.new }
 {
     let staked = read_inputs(text, at, numbers, stakes);
     let listed = read_list(text, staked.next, first);

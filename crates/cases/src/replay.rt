@@ -8,7 +8,7 @@ ghost use Rattle.io.specs.Counts.{IsPrefixLen};
 use crate::{Numbers, next_number, read_list, read_numbers};
 
 // The refusal that a case expects, and the place after what was read of it.
-#[derive(Drop)]
+#[derive(Clone, Copy, Drop)]
 pub struct Expected {
     pub formed: bool,
     pub refusal: u64,
@@ -16,14 +16,14 @@ pub struct Expected {
 }
 
 // How many numbers a case's list has, and what the case expects.
-#[derive(Drop)]
+#[derive(Clone, Copy, Drop)]
 pub struct Given {
     pub count: usize,
     pub expected: Expected,
 }
 
 // How many stakes and words a case has, and what it expects.
-#[derive(Drop)]
+#[derive(Clone, Copy, Drop)]
 pub struct Inputs {
     pub stakes: usize,
     pub words: usize,
@@ -31,7 +31,7 @@ pub struct Inputs {
 }
 
 // Whether a case is well formed and whether it agrees, and the place after it.
-#[derive(Drop)]
+#[derive(Clone, Copy, Drop)]
 pub struct Verdict {
     pub formed: bool,
     pub agrees: bool,
@@ -100,8 +100,8 @@ pub fn read_case(
     wanted: &mut [u64],
 ) -> Inputs
     ensures at_le_next { at ≤ result.expected.next }
-    ensures prefix_len { IsPrefixLen result.stakes stakes.new }
-    ensures prefix_len_2 { IsPrefixLen result.words list.new }
+    ensures stakes_prefix { IsPrefixLen result.stakes stakes.new }
+    ensures words_prefix { IsPrefixLen result.words list.new }
 {
     let staked = read_inputs(text, at, numbers, stakes);
     let given = read_words(text, staked.next, list, wanted);
@@ -114,7 +114,7 @@ pub fn read_case(
 
 // Reads a list of an accepted call to the front of wanted. Where a refusal is expected there is none, and wanted is as it was.
 pub fn read_expected_list(text: &[u8], e: Expected, wanted: &mut [u64]) -> Given
-    ensures next_le_next { e.next ≤ result.expected.next }
+    ensures next_not_before { e.next ≤ result.expected.next }
     ensures prefix_len { IsPrefixLen result.count wanted.new }
 {
     if !e.formed || e.refusal != 0 {

@@ -20,8 +20,8 @@ fn one_in_scratch(
     list: &[u64],
     cursor: usize,
 ) -> SampleAnswer
-    requires max_samples_value { lowest (size_checks 1 1 tries_allowed (length stakes.now) (length counts.old) max_samples) ≡ None }
-    requires stakes_in_bounds { length stakes.now ≤ length sums.old }
+    requires sizes_pass { lowest (size_checks 1 1 tries_allowed (length stakes.now) (length counts.old) max_samples) ≡ None }
+    requires sums_room { length stakes.now ≤ length sums.old }
     ensures value { result ≡ sample_answer (drop cursor list.now) (one tries_allowed stakes.now counts.old max_samples (drop cursor list.now)) }
     ensures counts_after { counts.new ≡ counts_after (one tries_allowed stakes.now counts.old max_samples (drop cursor list.now)) counts.old }
 {

@@ -28,11 +28,11 @@ fn quorum_of_sums(
     cursor: usize,
     seats: &mut [u64],
 ) -> QuorumAnswer
-    requires max_samples_value { lowest (size_checks k (length seats.old) tries_allowed (length stakes.now) (length counts.old) max_samples) ≡ None }
-    requires stakes_value { lowest (sum_checks stakes.now) ≡ None }
+    requires sizes_pass { lowest (size_checks k (length seats.old) tries_allowed (length stakes.now) (length counts.old) max_samples) ≡ None }
+    requires sum_passes { lowest (sum_checks stakes.now) ≡ None }
     requires sums_value { sums.now ≡ running_sums stakes.now }
-    requires stakes_in_bounds { length stakes.now ≤ length raised.old }
-    requires k_in_bounds { k ≤ length drawn.old }
+    requires raised_room { length stakes.now ≤ length raised.old }
+    requires drawn_room { k ≤ length drawn.old }
     ensures value { result ≡ quorum_answer (drop cursor list.now) (quorum k (length seats.old) tries_allowed stakes.now counts.old max_samples (drop cursor list.now)) }
     ensures seats_after { seats.new ≡ buffer_after (quorum k (length seats.old) tries_allowed stakes.now counts.old max_samples (drop cursor list.now)) seat_ids seats.old }
     ensures counts_after { counts.new ≡ buffer_after (quorum k (length seats.old) tries_allowed stakes.now counts.old max_samples (drop cursor list.now)) (zeros stakes.now) counts.old }
@@ -69,10 +69,10 @@ fn quorum_in_scratch(
     cursor: usize,
     seats: &mut [u64],
 ) -> QuorumAnswer
-    requires max_samples_value { lowest (size_checks k (length seats.old) tries_allowed (length stakes.now) (length counts.old) max_samples) ≡ None }
-    requires stakes_in_bounds { length stakes.now ≤ length sums.old }
-    requires stakes_in_bounds_2 { length stakes.now ≤ length raised.old }
-    requires k_in_bounds { k ≤ length drawn.old }
+    requires sizes_pass { lowest (size_checks k (length seats.old) tries_allowed (length stakes.now) (length counts.old) max_samples) ≡ None }
+    requires sums_room { length stakes.now ≤ length sums.old }
+    requires raised_room { length stakes.now ≤ length raised.old }
+    requires drawn_room { k ≤ length drawn.old }
     ensures value { result ≡ quorum_answer (drop cursor list.now) (quorum k (length seats.old) tries_allowed stakes.now counts.old max_samples (drop cursor list.now)) }
     ensures seats_after { seats.new ≡ buffer_after (quorum k (length seats.old) tries_allowed stakes.now counts.old max_samples (drop cursor list.now)) seat_ids seats.old }
     ensures counts_after { counts.new ≡ buffer_after (quorum k (length seats.old) tries_allowed stakes.now counts.old max_samples (drop cursor list.now)) (zeros stakes.now) counts.old }
@@ -109,8 +109,8 @@ fn quorum_by_length(
     cursor: usize,
     seats: &mut [u64],
 ) -> QuorumAnswer
-    requires max_samples_value { lowest (size_checks k (length seats.old) tries_allowed (length stakes.now) (length counts.old) max_samples) ≡ None }
-    requires k_in_bounds { k ≤ length drawn.old }
+    requires sizes_pass { lowest (size_checks k (length seats.old) tries_allowed (length stakes.now) (length counts.old) max_samples) ≡ None }
+    requires drawn_room { k ≤ length drawn.old }
     ensures value { result ≡ quorum_answer (drop cursor list.now) (quorum k (length seats.old) tries_allowed stakes.now counts.old max_samples (drop cursor list.now)) }
     ensures seats_after { seats.new ≡ buffer_after (quorum k (length seats.old) tries_allowed stakes.now counts.old max_samples (drop cursor list.now)) seat_ids seats.old }
     ensures counts_after { counts.new ≡ buffer_after (quorum k (length seats.old) tries_allowed stakes.now counts.old max_samples (drop cursor list.now)) (zeros stakes.now) counts.old }

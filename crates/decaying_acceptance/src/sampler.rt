@@ -17,7 +17,7 @@ pub const MAX_TRIES_PER_SAMPLE: usize = 100_000;
 
 // A sampler that rejects a validator the more often, the more often it was sampled before, and always once its count has reached
 // `max_samples`.
-#[derive(Drop)]
+#[derive(Clone, Copy, Drop)]
 pub struct DecayingAcceptanceSampler {
     max_samples: f64,
     tries_allowed: usize,

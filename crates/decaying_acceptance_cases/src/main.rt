@@ -8,7 +8,7 @@ use cases::{Expected, Verdict};
 use decaying_acceptance::{DecayingAcceptanceSampler, QuorumAnswer, SampleAnswer};
 
 // How many stakes, counts and words a case has, and what it expects.
-#[derive(Drop)]
+#[derive(Clone, Copy, Drop)]
 struct Inputs {
     stakes: usize,
     counts: usize,
@@ -37,9 +37,9 @@ fn read_case(
     wanted: &mut [u64],
 ) -> Inputs
     ensures at_le_next { at ≤ result.expected.next }
-    ensures prefix_len { IsPrefixLen result.stakes stakes.new }
-    ensures prefix_len_2 { IsPrefixLen result.counts counts.new }
-    ensures prefix_len_3 { IsPrefixLen result.words list.new }
+    ensures stakes_prefix { IsPrefixLen result.stakes stakes.new }
+    ensures counts_prefix { IsPrefixLen result.counts counts.new }
+    ensures words_prefix { IsPrefixLen result.words list.new }
 {
     let staked = cases::read_inputs(text, at, numbers, stakes);
     let counted = cases::read_list(text, staked.next, counts);

@@ -2,7 +2,7 @@
 use types::ValidatorIndex;
 
 // A validator that was picked, how many tries were made and how many words were read.
-#[derive(Drop)]
+#[derive(Clone, Copy, Drop)]
 pub struct Sample {
     pub id: ValidatorIndex,
     pub tries: usize,
@@ -10,21 +10,21 @@ pub struct Sample {
 }
 
 // What `sample_one` answers. A refusal is its number.
-#[derive(Drop)]
+#[derive(Clone, Copy, Drop)]
 pub enum SampleAnswer {
     Accepted(Sample),
     Refused(u64),
 }
 
 // A committee, whose seats stand in the lent buffer: how many tries were made over all seats, and how many words were read.
-#[derive(Drop)]
+#[derive(Clone, Copy, Drop)]
 pub struct Quorum {
     pub tries: usize,
     pub words_read: usize,
 }
 
 // What `sample_quorum` answers, likewise.
-#[derive(Drop)]
+#[derive(Clone, Copy, Drop)]
 pub enum QuorumAnswer {
     Accepted(Quorum),
     Refused(u64),

@@ -20,9 +20,9 @@ pub fn take_one(
     cursor: usize,
 ) -> SampleAnswer
     requires sums_value { sums.now ≡ running_sums stakes.now }
-    requires stakes_nonzero { 0 < total stakes.now }
-    requires stakes_in_bounds { length stakes.now ≤ length counts.old }
-    requires stakes_value { (count_limit counts.old (length stakes.now) 1).applies ≡ false }
+    requires total_nonzero { 0 < total stakes.now }
+    requires counts_room { length stakes.now ≤ length counts.old }
+    requires counts_pass { (count_limit counts.old (length stakes.now) 1).applies ≡ false }
     ensures value { result ≡ sample_answer (drop cursor list.now) (seat tries_allowed 0 stakes.now counts.old max_samples (drop cursor list.now)) }
     ensures counts_after { counts.new ≡ counts_after (seat tries_allowed 0 stakes.now counts.old max_samples (drop cursor list.now)) counts.old }
 {

@@ -12,7 +12,7 @@ use tries::{DrawnSeat, draw_seat};
 use words::Words;
 
 // What drawing all seats gives: the tries over all of them, or 12 or 13.
-#[derive(Drop)]
+#[derive(Clone, Copy, Drop)]
 pub enum DrawnSeats {
     Drawn(usize),
     Refused(u64),
@@ -41,9 +41,9 @@ fn draw_seats(
     seats: &mut [u64],
 ) -> DrawnSeats
     requires sums_value { sums.now ≡ running_sums stakes.now }
-    requires stakes_nonzero { 0 < total stakes.now }
-    requires stakes_in_bounds { length stakes.now ≤ length counts.old }
-    requires seats_value { (count_limit counts.old (length stakes.now) (length seats.old)).applies ≡ false }
+    requires total_nonzero { 0 < total stakes.now }
+    requires counts_room { length stakes.now ≤ length counts.old }
+    requires counts_pass { (count_limit counts.old (length stakes.now) (length seats.old)).applies ≡ false }
     requires tries_allowed_bound { tries_allowed ≤ 100000 }
     requires seats_len_bound { length seats.old ≤ 1024 }
     ensures { seats_says result seats.new (stream list.now words.new) ≡ seated (committee (length seats.old) tries_allowed stakes.now counts.old max_samples (stream list.now words.old)) }
@@ -91,13 +91,13 @@ pub fn fill_quorum(
     seats: &mut [u64],
 ) -> QuorumAnswer
     requires sums_value { sums.now ≡ running_sums stakes.now }
-    requires stakes_nonzero { 0 < total stakes.now }
+    requires total_nonzero { 0 < total stakes.now }
     requires raised_len { length raised.old ≡ length stakes.now }
-    requires stakes_in_bounds { length stakes.now ≤ length counts.old }
-    requires drawn_value { (count_limit counts.old (length stakes.now) (length drawn.old)).applies ≡ false }
+    requires counts_room { length stakes.now ≤ length counts.old }
+    requires counts_pass { (count_limit counts.old (length stakes.now) (length drawn.old)).applies ≡ false }
     requires tries_allowed_bound { tries_allowed ≤ 100000 }
     requires drawn_len_bound { length drawn.old ≤ 1024 }
-    requires drawn_in_bounds { length drawn.old ≤ length seats.old }
+    requires seats_room { length drawn.old ≤ length seats.old }
     ensures value { result ≡ quorum_answer (drop cursor list.now) (committee (length drawn.old) tries_allowed stakes.now (take (length stakes.now) counts.old) max_samples (drop cursor list.now)) }
     ensures seats_after { seats.new ≡ buffer_after (committee (length drawn.old) tries_allowed stakes.now (take (length stakes.now) counts.old) max_samples (drop cursor list.now)) seat_ids seats.old }
     ensures counts_after { counts.new ≡ buffer_after (committee (length drawn.old) tries_allowed stakes.now (take (length stakes.now) counts.old) max_samples (drop cursor list.now)) (zeros stakes.now) counts.old }

@@ -8,7 +8,7 @@ ghost use Rattle.draws.specs.Answers.{below_says};
 use words::{Word, Words};
 
 // What a draw below m gives.
-#[derive(Drop)]
+#[derive(Clone, Copy, Drop)]
 pub enum Below {
     Value(u64),
     NoWord,
@@ -25,8 +25,8 @@ fn counts(m: u64, word: u64) -> bool
 // A value below m, each for equally many words.
 pub fn draw_below(list: &[u64], words: &mut Words, m: u64) -> Below
     requires { 0 < m }
-    ensures words_after { below_says result (stream list.now words.new) ≡ below m (stream list.now words.old) }
-    ensures words_after_2 { stream list.now words.new ≡ left_after (below m (stream list.now words.old)) }
+    ensures outcome { below_says result (stream list.now words.new) ≡ below m (stream list.now words.old) }
+    ensures words_after { stream list.now words.new ≡ left_after (below m (stream list.now words.old)) }
 {
     loop {
         match words::next_word(list, words) {

@@ -8,7 +8,7 @@ ghost use Rattle.draws.specs.Answers.{fraction_says, FractionPromises};
 use words::{Word, Words};
 
 // What drawing a fraction gives.
-#[derive(Drop)]
+#[derive(Clone, Copy, Drop)]
 pub enum Fraction {
     Value(f64),
     NoWord,
@@ -23,8 +23,8 @@ fn fraction_of(word: u64) -> f64
 
 // A fraction at least 0 and below 1, by one word.
 pub fn draw_fraction(list: &[u64], words: &mut Words) -> Fraction
-    ensures words_after { fraction_says result (stream list.now words.new) ≡ fraction (stream list.now words.old) }
-    ensures words_after_2 { stream list.now words.new ≡ left_after (fraction (stream list.now words.old)) }
+    ensures outcome { fraction_says result (stream list.now words.new) ≡ fraction (stream list.now words.old) }
+    ensures words_after { stream list.now words.new ≡ left_after (fraction (stream list.now words.old)) }
     ensures fraction_promises { FractionPromises result }
 {
     match words::next_word(list, words) {

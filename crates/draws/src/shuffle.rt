@@ -11,7 +11,7 @@ use crate::below::Below;
 use words::Words;
 
 // How a shuffle ends.
-#[derive(Drop)]
+#[derive(Clone, Copy, Drop)]
 pub enum Shuffled {
     Done,
     NoWord,
@@ -19,8 +19,8 @@ pub enum Shuffled {
 
 // Shuffles a list in place. Where the words run out the items are left in some other order, and callers shuffle a list of their own.
 pub fn shuffle_list(list: &[u64], words: &mut Words, items: &mut [u64]) -> Shuffled
-    ensures words_after { shuffled_says result items.new (stream list.now words.new) ≡ shuffle items.old (stream list.now words.old) }
-    ensures words_after_2 { stream list.now words.new ≡ left_after (shuffle items.old (stream list.now words.old)) }
+    ensures outcome { shuffled_says result items.new (stream list.now words.new) ≡ shuffle items.old (stream list.now words.old) }
+    ensures words_after { stream list.now words.new ≡ left_after (shuffle items.old (stream list.now words.old)) }
     ensures permutation { Permutation items.old items.new }
 {
     let mut i = 1;

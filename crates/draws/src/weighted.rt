@@ -14,14 +14,14 @@ use refusals::Summed;
 use words::Words;
 
 // A place among weights, and the value that was drawn less the running sum before it.
-#[derive(Drop)]
+#[derive(Clone, Copy, Drop)]
 pub struct Place {
     pub at: usize,
     pub remainder: u64,
 }
 
 // What a weighted draw gives.
-#[derive(Drop)]
+#[derive(Clone, Copy, Drop)]
 pub enum Weighted {
     At(Place),
     NoWord,
@@ -29,7 +29,7 @@ pub enum Weighted {
 
 // Writes the running sums of the weights to the front of sums.
 pub fn running_sums(weights: &[u64], sums: &mut [u64])
-    requires weights_in_bounds { length weights.now ≤ length sums.old }
+    requires sums_room { length weights.now ≤ length sums.old }
     requires weights_bound { total weights.now < 2 ^ 64 }
     ensures { sums.new ≡ running_sums weights.now ++ drop (length weights.now) sums.old }
 {
@@ -101,9 +101,9 @@ pub fn walked_place(weights: &[u64], v: u64) -> Place
 // A place among weights, whose running sums are given: each for as many values as its weight counts.
 pub fn draw_weighted(list: &[u64], words: &mut Words, weights: &[u64], sums: &[u64]) -> Weighted
     requires sums_value { sums.now ≡ running_sums weights.now }
-    requires weights_nonzero { 0 < total weights.now }
-    ensures words_after { weighted_says result (stream list.now words.new) ≡ weighted weights.now (stream list.now words.old) }
-    ensures words_after_2 { stream list.now words.new ≡ left_after (weighted weights.now (stream list.now words.old)) }
+    requires total_nonzero { 0 < total weights.now }
+    ensures outcome { weighted_says result (stream list.now words.new) ≡ weighted weights.now (stream list.now words.old) }
+    ensures words_after { stream list.now words.new ≡ left_after (weighted weights.now (stream list.now words.old)) }
 {
     let sum = sums[sums.len() - 1];
     match below::draw_below(list, words, sum) {

@@ -2,7 +2,7 @@
 
 // A committee whose seats and pieces stand in the lent buffers: how many seats are not fixed, the number of pieces, and how many words
 // were read of each list.
-#[derive(Drop)]
+#[derive(Clone, Copy, Drop)]
 pub struct Committee {
     pub further: usize,
     pub pieces: usize,
@@ -11,7 +11,7 @@ pub struct Committee {
 }
 
 // A refusal is its number.
-#[derive(Drop)]
+#[derive(Clone, Copy, Drop)]
 pub enum CommitteeAnswer {
     Accepted(Committee),
     Refused(u64),

@@ -60,8 +60,8 @@ fn draw_plain(
     sums: &mut [u64],
     committee: &mut [u64],
 ) -> PartitionAnswer
-    requires fixed_in_bounds { fixed < length committee.old }
-    requires kept_nonzero { 0 < total kept.now }
+    requires seat_left { fixed < length committee.old }
+    requires total_nonzero { 0 < total kept.now }
     requires kept_bound { total kept.now < 2 ^ 64 }
     requires sums_len { length sums.old ≡ length kept.now }
     ensures value { result ≡ partition_answer (drop first_cursor first.now) [] (plain kept.now (length committee.old - fixed) (drop first_cursor first.now) []) }

@@ -90,9 +90,9 @@ fn committee_in_scratch(
 ) -> CommitteeAnswer
     requires admitted { Admitted fallback stakes.now sum (length seats.old) (length piece_bins.old) (length piece_validators.old) (length piece_stakes.old) }
     requires k_value { k ≡ size_of fallback }
-    requires stakes_in_bounds { length stakes.now ≤ length kept.old }
-    requires stakes_in_bounds_2 { length stakes.now ≤ length order.old }
-    requires k_in_bounds { k ≤ length committee.old }
+    requires kept_room { length stakes.now ≤ length kept.old }
+    requires order_room { length stakes.now ≤ length order.old }
+    requires committee_room { k ≤ length committee.old }
     ensures value { result ≡ committee_answer (drop first_cursor first.now) (drop second_cursor second.now) (committee_over fallback stakes.now (drop first_cursor first.now) (drop second_cursor second.now)) }
     ensures seats_after { seats.new ≡ buffer_after (committee_over fallback stakes.now (drop first_cursor first.now) (drop second_cursor second.now)) seats_of seats.old }
     ensures piece_bins_after { piece_bins.new ≡ buffer_after (committee_over fallback stakes.now (drop first_cursor first.now) (drop second_cursor second.now)) piece_bins_of piece_bins.old }

@@ -19,7 +19,7 @@ pub enum Fallback {
 }
 
 // A sampler that gives each validator the whole number of seats in its share, and draws the others.
-#[derive(Drop)]
+#[derive(Clone, Copy, Drop)]
 pub struct FaitAccompli1Sampler {
     fallback: Fallback,
 }
@@ -65,11 +65,11 @@ impl FaitAccompli1Sampler {
         piece_validators: &mut [u64],
         piece_stakes: &mut [u64],
     ) -> CommitteeAnswer
-        ensures value { result ≡ committee_answer (drop first_cursor first.now) (drop second_cursor second.now) (quorum self.fallback stakes.now (record { seats = length seats.entry.now; bins = length piece_bins.old; validators = length piece_validators.old; stakes = length piece_stakes.old }) (drop first_cursor first.now) (drop second_cursor second.now)) }
-        ensures seats_value { seats.exit.now ≡ buffer_after (quorum self.fallback stakes.now (record { seats = length seats.entry.now; bins = length piece_bins.old; validators = length piece_validators.old; stakes = length piece_stakes.old }) (drop first_cursor first.now) (drop second_cursor second.now)) seats_of seats.entry.now }
-        ensures piece_bins_after { piece_bins.new ≡ buffer_after (quorum self.fallback stakes.now (record { seats = length seats.entry.now; bins = length piece_bins.old; validators = length piece_validators.old; stakes = length piece_stakes.old }) (drop first_cursor first.now) (drop second_cursor second.now)) piece_bins_of piece_bins.old }
-        ensures piece_validators_after { piece_validators.new ≡ buffer_after (quorum self.fallback stakes.now (record { seats = length seats.entry.now; bins = length piece_bins.old; validators = length piece_validators.old; stakes = length piece_stakes.old }) (drop first_cursor first.now) (drop second_cursor second.now)) piece_validators_of piece_validators.old }
-        ensures piece_stakes_after { piece_stakes.new ≡ buffer_after (quorum self.fallback stakes.now (record { seats = length seats.entry.now; bins = length piece_bins.old; validators = length piece_validators.old; stakes = length piece_stakes.old }) (drop first_cursor first.now) (drop second_cursor second.now)) piece_stakes_of piece_stakes.old }
+        ensures value { result ≡ committee_answer (drop first_cursor first.now) (drop second_cursor second.now) (quorum self.fallback stakes.now (record { seats = length seats.old; bins = length piece_bins.old; validators = length piece_validators.old; stakes = length piece_stakes.old }) (drop first_cursor first.now) (drop second_cursor second.now)) }
+        ensures seats_after { seats.new ≡ buffer_after (quorum self.fallback stakes.now (record { seats = length seats.old; bins = length piece_bins.old; validators = length piece_validators.old; stakes = length piece_stakes.old }) (drop first_cursor first.now) (drop second_cursor second.now)) seats_of seats.old }
+        ensures piece_bins_after { piece_bins.new ≡ buffer_after (quorum self.fallback stakes.now (record { seats = length seats.old; bins = length piece_bins.old; validators = length piece_validators.old; stakes = length piece_stakes.old }) (drop first_cursor first.now) (drop second_cursor second.now)) piece_bins_of piece_bins.old }
+        ensures piece_validators_after { piece_validators.new ≡ buffer_after (quorum self.fallback stakes.now (record { seats = length seats.old; bins = length piece_bins.old; validators = length piece_validators.old; stakes = length piece_stakes.old }) (drop first_cursor first.now) (drop second_cursor second.now)) piece_validators_of piece_validators.old }
+        ensures piece_stakes_after { piece_stakes.new ≡ buffer_after (quorum self.fallback stakes.now (record { seats = length seats.old; bins = length piece_bins.old; validators = length piece_validators.old; stakes = length piece_stakes.old }) (drop first_cursor first.now) (drop second_cursor second.now)) piece_stakes_of piece_stakes.old }
     {
         let fallback = self.fallback;
         match checks::size_refusal(

@@ -15,9 +15,9 @@ fn put_piece(
     piece_validators: &mut [u64],
     piece_stakes: &mut [u64],
 ) -> usize
-    requires stake_in_bounds { at + cond (ltb 0 stake) 1 0 ≤ length piece_bins.old }
-    requires stake_in_bounds_2 { at + cond (ltb 0 stake) 1 0 ≤ length piece_validators.old }
-    requires stake_in_bounds_3 { at + cond (ltb 0 stake) 1 0 ≤ length piece_stakes.old }
+    requires bins_room { at + cond (ltb 0 stake) 1 0 ≤ length piece_bins.old }
+    requires validators_room { at + cond (ltb 0 stake) 1 0 ≤ length piece_validators.old }
+    requires stakes_room { at + cond (ltb 0 stake) 1 0 ≤ length piece_stakes.old }
     ensures value { result ≡ at + cond (ltb 0 stake) 1 0 }
     ensures piece_bins_after { piece_bins.new ≡ cond (ltb 0 stake) (set piece_bins.old at bin) piece_bins.old }
     ensures piece_validators_after { piece_validators.new ≡ cond (ltb 0 stake) (set piece_validators.old at validator) piece_validators.old }
@@ -45,10 +45,10 @@ pub fn fill(
 ) -> usize
     requires bins_nonzero { 0 < bins }
     requires all_below { AllBelow (length weights.now) order.now }
-    requires order_bound { total (share_stakes (in_order weights.now order.now)) ≤ bins * capacity }
-    requires bins_in_bounds { length order.now + bins ≤ length piece_bins.old }
-    requires bins_in_bounds_2 { length order.now + bins ≤ length piece_validators.old }
-    requires bins_in_bounds_3 { length order.now + bins ≤ length piece_stakes.old }
+    requires total_fits { total (share_stakes (in_order weights.now order.now)) ≤ bins * capacity }
+    requires bins_room { length order.now + bins ≤ length piece_bins.old }
+    requires validators_room { length order.now + bins ≤ length piece_validators.old }
+    requires stakes_room { length order.now + bins ≤ length piece_stakes.old }
     ensures value { result ≡ length (pieces 0 (fill capacity bins (in_order weights.now order.now))) }
     ensures piece_bins_after { piece_bins.new ≡ bins_of (pieces 0 (fill capacity bins (in_order weights.now order.now))) ++ drop result piece_bins.old }
     ensures piece_validators_after { piece_validators.new ≡ validators_of (pieces 0 (fill capacity bins (in_order weights.now order.now))) ++ drop result piece_validators.old }

@@ -16,7 +16,7 @@ use draws::below::Below;
 use words::Words;
 
 // How drawing the values of the bins ends.
-#[derive(Drop)]
+#[derive(Clone, Copy, Drop)]
 pub enum Values {
     Drawn,
     NoWord,
@@ -30,7 +30,7 @@ pub fn draw_values(
     sum: u64,
     values: &mut [u64],
 ) -> Values
-    requires capacity_bound { (length values.old - 1) * capacity < sum }
+    requires last_bin_filled { (length values.old - 1) * capacity < sum }
     requires capacity_nonzero { 0 < capacity }
     ensures { values_says result values.new (stream list.now words.new) ≡ each below (bin_sums capacity (length values.old) sum) (stream list.now words.old) }
 {
@@ -87,12 +87,12 @@ pub fn fill_and_choose(
 ) -> usize
     requires seats_nonzero { 0 < length seats.old }
     requires all_below { AllBelow (length weights.now) order.now }
-    requires order_in_bounds { bin_total (in_order weights.now order.now) ≤ length seats.old * capacity }
-    requires order_bound { bin_total (in_order weights.now order.now) < 2 ^ 64 }
+    requires total_fits { bin_total (in_order weights.now order.now) ≤ length seats.old * capacity }
+    requires total_bound { bin_total (in_order weights.now order.now) < 2 ^ 64 }
     requires low { Low capacity (length seats.old) (bin_total (in_order weights.now order.now)) seats.old }
-    requires seats_in_bounds { length order.now + length seats.old ≤ length piece_bins.old }
-    requires seats_in_bounds_2 { length order.now + length seats.old ≤ length piece_validators.old }
-    requires seats_in_bounds_3 { length order.now + length seats.old ≤ length piece_stakes.old }
+    requires bins_room { length order.now + length seats.old ≤ length piece_bins.old }
+    requires validators_room { length order.now + length seats.old ≤ length piece_validators.old }
+    requires stakes_room { length order.now + length seats.old ≤ length piece_stakes.old }
     ensures value { result ≡ length (pieces 0 (fill capacity (length seats.old) (in_order weights.now order.now))) }
     ensures seats_after { seats.new ≡ ids (choices (fill capacity (length seats.old) (in_order weights.now order.now)) seats.old) }
     ensures piece_bins_after { piece_bins.new ≡ bins_of (pieces 0 (fill capacity (length seats.old) (in_order weights.now order.now))) ++ drop result piece_bins.old }

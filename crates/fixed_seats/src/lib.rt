@@ -31,7 +31,7 @@ fn fixed_seats(stake: u64, total: u64, k: u64, quotient: u64, remainder: u64) ->
 // What fixed seats leave of a stake: stake - floor(fixed * total / k), where total over k is given.
 fn kept_stake(stake: u64, fixed: u64, k: u64, quotient: u64, remainder: u64) -> u64
     requires divided { Divided (quotient * k + remainder) k quotient remainder }
-    requires k_bound { fixed * (quotient * k + remainder) / k ≤ stake }
+    requires fixed_within_stake { fixed * (quotient * k + remainder) / k ≤ stake }
     requires fixed_bound { fixed ≤ 1024 }
     ensures { result ≡ stake - fixed * (quotient * k + remainder) / k }
 {
@@ -42,7 +42,7 @@ fn kept_stake(stake: u64, fixed: u64, k: u64, quotient: u64, remainder: u64) -> 
 }
 
 // All fixed seats, and all stake that is kept.
-#[derive(Drop)]
+#[derive(Clone, Copy, Drop)]
 pub struct Kept {
     pub seats: u64,
     pub stake: u64,

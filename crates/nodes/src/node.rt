@@ -112,8 +112,8 @@ fn pick(t: bool, x: u64, y: u64) -> u64
 
 // Where among four sums from a place on, whose running sums are given, the value one below a limit falls.
 fn among_four(at: usize, limit: u64, a: u64, ab: u64, abc: u64, abcd: u64) -> Field
-    requires at_bound { (at ≤ 12) × ((0 < limit) × (limit ≤ abcd)) }
-    requires a_le_ab { (a ≤ ab) × ((ab ≤ abc) × (abc ≤ abcd)) }
+    requires place_and_limit { (at ≤ 12) × ((0 < limit) × (limit ≤ abcd)) }
+    requires sums_ascend { (a ≤ ab) × ((ab ≤ abc) × (abc ≤ abcd)) }
     ensures { result ≡ among_four at limit a ab abc abcd }
 {
     let first = a < limit;
@@ -159,7 +159,7 @@ impl Found {
 // The sixteen sums from place 16 * i on, as a node; those of the other node take their place.
 pub fn swap_node(sums: &mut [u64], i: usize, node: Node) -> Node
     requires { 16 * i + 16 ≤ length sums.old }
-    ensures value { result ≡ record { sums = take 16 (drop (16 * i) sums.entry.now) } }
+    ensures value { result ≡ record { sums = take 16 (drop (16 * i) sums.old) } }
     ensures sums_after { sums.new ≡ take (16 * i) sums.old ++ (node.sums ++ drop (16 * i + 16) sums.old) }
 {
     let first = 16 * i;

@@ -1,7 +1,7 @@
 // What the sampler answers.
 
 // A partition whose seats and pieces stand in the lent buffers: the number of pieces, and how many words were read of each list.
-#[derive(Drop)]
+#[derive(Clone, Copy, Drop)]
 pub struct Partition {
     pub pieces: usize,
     pub first_words_read: usize,
@@ -9,7 +9,7 @@ pub struct Partition {
 }
 
 // A refusal is its number.
-#[derive(Drop)]
+#[derive(Clone, Copy, Drop)]
 pub enum PartitionAnswer {
     Accepted(Partition),
     Refused(u64),

@@ -25,7 +25,7 @@ fn store_quorum(
 ) -> PartitionAnswer
     requires partable { Partable stakes.now sum (length drawn.old) (length piece_bins.old) (length piece_validators.old) (length piece_stakes.old) }
     requires order_len { length order.old ≡ length stakes.now }
-    requires drawn_in_bounds { length drawn.old ≤ length seats.old }
+    requires seats_room { length drawn.old ≤ length seats.old }
     ensures value { result ≡ partition_answer (drop first_cursor first.now) (drop second_cursor second.now) (parted stakes.now sum (length drawn.old) (drop first_cursor first.now) (drop second_cursor second.now)) }
     ensures seats_after { seats.new ≡ buffer_after (parted stakes.now sum (length drawn.old) (drop first_cursor first.now) (drop second_cursor second.now)) seat_ids seats.old }
     ensures piece_bins_after { piece_bins.new ≡ buffer_after (parted stakes.now sum (length drawn.old) (drop first_cursor first.now) (drop second_cursor second.now)) piece_bins_of piece_bins.old }
@@ -70,9 +70,9 @@ fn quorum_in_scratch(
     piece_stakes: &mut [u64],
 ) -> PartitionAnswer
     requires partable { Partable stakes.now sum bins (length piece_bins.old) (length piece_validators.old) (length piece_stakes.old) }
-    requires stakes_in_bounds { length stakes.now ≤ length order.old }
-    requires bins_in_bounds { bins ≤ length drawn.old }
-    requires bins_in_bounds_2 { bins ≤ length seats.old }
+    requires order_room { length stakes.now ≤ length order.old }
+    requires drawn_room { bins ≤ length drawn.old }
+    requires seats_room { bins ≤ length seats.old }
     ensures value { result ≡ partition_answer (drop first_cursor first.now) (drop second_cursor second.now) (parted stakes.now sum bins (drop first_cursor first.now) (drop second_cursor second.now)) }
     ensures seats_after { seats.new ≡ buffer_after (parted stakes.now sum bins (drop first_cursor first.now) (drop second_cursor second.now)) seat_ids seats.old }
     ensures piece_bins_after { piece_bins.new ≡ buffer_after (parted stakes.now sum bins (drop first_cursor first.now) (drop second_cursor second.now)) piece_bins_of piece_bins.old }
@@ -112,7 +112,7 @@ pub fn draw_quorum(
 ) -> PartitionAnswer
     requires partable { Partable stakes.now sum bins (length piece_bins.old) (length piece_validators.old) (length piece_stakes.old) }
     requires stakes_len_bound { length stakes.now ≤ 4096 }
-    requires bins_in_bounds { bins ≤ length seats.old }
+    requires seats_room { bins ≤ length seats.old }
     ensures value { result ≡ partition_answer (drop first_cursor first.now) (drop second_cursor second.now) (parted stakes.now sum bins (drop first_cursor first.now) (drop second_cursor second.now)) }
     ensures seats_after { seats.new ≡ buffer_after (parted stakes.now sum bins (drop first_cursor first.now) (drop second_cursor second.now)) seat_ids seats.old }
     ensures piece_bins_after { piece_bins.new ≡ buffer_after (parted stakes.now sum bins (drop first_cursor first.now) (drop second_cursor second.now)) piece_bins_of piece_bins.old }

@@ -10,7 +10,7 @@ use crate::{checks, quorum};
 use refusals::{Refusal, Summed};
 
 // A sampler that partitions the stakes into bins, and picks one validator from each.
-#[derive(Drop)]
+#[derive(Clone, Copy, Drop)]
 pub struct PartitionSampler {
     num_bins: usize,
 }
@@ -43,11 +43,11 @@ impl PartitionSampler {
         piece_validators: &mut [u64],
         piece_stakes: &mut [u64],
     ) -> PartitionAnswer
-        ensures value { result ≡ partition_answer (drop first_cursor first.now) (drop second_cursor second.now) (quorum stakes.now self.num_bins (record { seats = length seats.entry.now; bins = length piece_bins.old; validators = length piece_validators.old; stakes = length piece_stakes.old }) (drop first_cursor first.now) (drop second_cursor second.now)) }
-        ensures seats_value { seats.exit.now ≡ buffer_after (quorum stakes.now self.num_bins (record { seats = length seats.entry.now; bins = length piece_bins.old; validators = length piece_validators.old; stakes = length piece_stakes.old }) (drop first_cursor first.now) (drop second_cursor second.now)) seat_ids seats.entry.now }
-        ensures piece_bins_after { piece_bins.new ≡ buffer_after (quorum stakes.now self.num_bins (record { seats = length seats.entry.now; bins = length piece_bins.old; validators = length piece_validators.old; stakes = length piece_stakes.old }) (drop first_cursor first.now) (drop second_cursor second.now)) piece_bins_of piece_bins.old }
-        ensures piece_validators_after { piece_validators.new ≡ buffer_after (quorum stakes.now self.num_bins (record { seats = length seats.entry.now; bins = length piece_bins.old; validators = length piece_validators.old; stakes = length piece_stakes.old }) (drop first_cursor first.now) (drop second_cursor second.now)) piece_validators_of piece_validators.old }
-        ensures piece_stakes_after { piece_stakes.new ≡ buffer_after (quorum stakes.now self.num_bins (record { seats = length seats.entry.now; bins = length piece_bins.old; validators = length piece_validators.old; stakes = length piece_stakes.old }) (drop first_cursor first.now) (drop second_cursor second.now)) piece_stakes_of piece_stakes.old }
+        ensures value { result ≡ partition_answer (drop first_cursor first.now) (drop second_cursor second.now) (quorum stakes.now self.num_bins (record { seats = length seats.old; bins = length piece_bins.old; validators = length piece_validators.old; stakes = length piece_stakes.old }) (drop first_cursor first.now) (drop second_cursor second.now)) }
+        ensures seats_after { seats.new ≡ buffer_after (quorum stakes.now self.num_bins (record { seats = length seats.old; bins = length piece_bins.old; validators = length piece_validators.old; stakes = length piece_stakes.old }) (drop first_cursor first.now) (drop second_cursor second.now)) seat_ids seats.old }
+        ensures piece_bins_after { piece_bins.new ≡ buffer_after (quorum stakes.now self.num_bins (record { seats = length seats.old; bins = length piece_bins.old; validators = length piece_validators.old; stakes = length piece_stakes.old }) (drop first_cursor first.now) (drop second_cursor second.now)) piece_bins_of piece_bins.old }
+        ensures piece_validators_after { piece_validators.new ≡ buffer_after (quorum stakes.now self.num_bins (record { seats = length seats.old; bins = length piece_bins.old; validators = length piece_validators.old; stakes = length piece_stakes.old }) (drop first_cursor first.now) (drop second_cursor second.now)) piece_validators_of piece_validators.old }
+        ensures piece_stakes_after { piece_stakes.new ≡ buffer_after (quorum stakes.now self.num_bins (record { seats = length seats.old; bins = length piece_bins.old; validators = length piece_validators.old; stakes = length piece_stakes.old }) (drop first_cursor first.now) (drop second_cursor second.now)) piece_stakes_of piece_stakes.old }
     {
         let bins = self.num_bins;
         match checks::size_refusal(

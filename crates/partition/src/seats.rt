@@ -17,7 +17,7 @@ use fill::values;
 use fill::values::Values;
 
 // How a step that reads words ends: with so many read, or with a refusal.
-#[derive(Drop)]
+#[derive(Clone, Copy, Drop)]
 pub enum Read {
     Words(usize),
     Refused(u64),
@@ -50,7 +50,7 @@ fn shuffle_ids(list: &[u64], cursor: usize, order: &mut [u64]) -> Read
 
 // A value for each bin, by the words of a list from a cursor on.
 fn draw_by(list: &[u64], cursor: usize, capacity: u64, sum: u64, values: &mut [u64]) -> Read
-    requires capacity_bound { (length values.old - 1) * capacity < sum }
+    requires last_bin_filled { (length values.old - 1) * capacity < sum }
     requires capacity_nonzero { 0 < capacity }
     ensures value { result ≡ read_answer (drop cursor list.now) (each below (bin_sums capacity (length values.old) sum) (drop cursor list.now)) }
     ensures holds { Holds (each below (bin_sums capacity (length values.old) sum) (drop cursor list.now)) values.new }
@@ -81,9 +81,9 @@ fn draw_bins(
 ) -> PartitionAnswer
     requires fillable { Fillable weights.now sum capacity (length seats.old) }
     requires order_len { length order.old ≡ length weights.now }
-    requires seats_in_bounds { length weights.now + length seats.old ≤ length piece_bins.old }
-    requires seats_in_bounds_2 { length weights.now + length seats.old ≤ length piece_validators.old }
-    requires seats_in_bounds_3 { length weights.now + length seats.old ≤ length piece_stakes.old }
+    requires bins_room { length weights.now + length seats.old ≤ length piece_bins.old }
+    requires validators_room { length weights.now + length seats.old ≤ length piece_validators.old }
+    requires stakes_room { length weights.now + length seats.old ≤ length piece_stakes.old }
     ensures value { result ≡ partition_answer (drop first_cursor first.now) (drop second_cursor second.now) (over_bins weights.now capacity (length seats.old) (drop first_cursor first.now) (drop second_cursor second.now)) }
     ensures holds { Holds (giving seat_ids (over_bins weights.now capacity (length seats.old) (drop first_cursor first.now) (drop second_cursor second.now))) seats.new }
     ensures piece_bins_after { piece_bins.new ≡ buffer_after (over_bins weights.now capacity (length seats.old) (drop first_cursor first.now) (drop second_cursor second.now)) piece_bins_of piece_bins.old }

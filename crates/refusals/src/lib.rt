@@ -9,14 +9,14 @@ ghost use Rattle.refusals.specs.Answers.{summed_by};
 use types::{CheckedStake, Stake};
 
 // Whether a call is turned down, and by which number.
-#[derive(Drop)]
+#[derive(Clone, Copy, Drop)]
 pub enum Refusal {
     None,
     Number(u64),
 }
 
 // The sum of stakes, where neither 8 nor 9 applies, or the number that does.
-#[derive(Drop)]
+#[derive(Clone, Copy, Drop)]
 pub enum Summed {
     Sum(u64),
     Refused(u64),

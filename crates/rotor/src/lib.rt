@@ -10,7 +10,7 @@ use types::ValidatorIndex;
 pub const TOTAL_SHREDS: usize = 64;
 
 // What `sample_relay` answers. A refusal is its number.
-#[derive(Drop)]
+#[derive(Clone, Copy, Drop)]
 pub enum RelayAnswer {
     Accepted(ValidatorIndex),
     Refused(u64),

@@ -15,7 +15,7 @@ const ALPENGLO: u64 = 0x414c_5045_4e47_4c4f;
 const WTURBINE: u64 = 0x5754_5552_4249_4e45;
 
 // What a call that writes a seed answers. A refusal is its number.
-#[derive(Drop)]
+#[derive(Clone, Copy, Drop)]
 pub enum SeedAnswer {
     Accepted,
     Refused(u64),

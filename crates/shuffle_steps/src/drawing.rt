@@ -24,7 +24,7 @@ pub struct Drawing {
 }
 
 // How a shuffle ends: its answer, and how many nodes are to hold again what they held.
-#[derive(Drop)]
+#[derive(Clone, Copy, Drop)]
 pub struct Ended {
     pub answer: ShuffleAnswer,
     pub back: usize,
@@ -56,9 +56,9 @@ pub fn draw_value(list: &[u64], s: Drawing) -> Drawing
 
 // The position that was found is drawn, its weight is out of the tree, and the next value is drawn.
 pub fn took(list: &[u64], drawn: &mut [u64], s: Drawing, found: Found) -> Drawing
-    requires count_in_bounds { s.count < length drawn.old }
-    requires num_nodes_bound { s.num_nodes ≤ found.index }
-    requires weight_le_weight { found.weight ≤ s.weight }
+    requires drawn_room { s.count < length drawn.old }
+    requires found_is_leaf { s.num_nodes ≤ found.index }
+    requires found_within_weight { found.weight ≤ s.weight }
     ensures valued { Valued list.now (without s found) result }
     ensures drawn_after { drawn.new ≡ set drawn.old s.count (found.index - s.num_nodes) }
 {

@@ -12,7 +12,7 @@ use draws::below::Below;
 use words::Words;
 
 // How drawing the zeros ends.
-#[derive(Drop)]
+#[derive(Clone, Copy, Drop)]
 pub enum Zeros {
     Drawn,
     NoWord,

@@ -24,8 +24,8 @@ fn precedes(sums: &[u64], v: u64, at: usize) -> usize
 fn past_parts(sums: &[u64], v: u64, w: Window, part: usize) -> Window
     requires sorted { Sorted sums.now }
     requires first_above_in { FirstAboveIn sums.now v w.low w.size }
-    requires part_nonzero { (0 < part) × (4 * part ≤ w.size + 1) }
-    ensures first_above_in_2 { FirstAboveIn sums.now v result.low result.size }
+    requires part_fits { (0 < part) × (4 * part ≤ w.size + 1) }
+    ensures still_in { FirstAboveIn sums.now v result.low result.size }
     ensures size_value { result.size ≡ w.size - 3 * part }
 {
     let low = w.low;
@@ -57,8 +57,8 @@ fn one_by_one(sums: &[u64], v: u64, w: Window) -> usize
 fn past_part(sums: &[u64], v: u64, w: Window, part: usize) -> Window
     requires sorted { Sorted sums.now }
     requires first_above_in { FirstAboveIn sums.now v w.low w.size }
-    requires part_nonzero { (0 < part) × (2 * part ≤ w.size + 1) }
-    ensures first_above_in_2 { FirstAboveIn sums.now v result.low result.size }
+    requires part_fits { (0 < part) × (2 * part ≤ w.size + 1) }
+    ensures still_in { FirstAboveIn sums.now v result.low result.size }
     ensures size_value { result.size ≡ w.size - part }
 {
     let low = w.low;
@@ -112,7 +112,7 @@ fn whole_size(n: usize) -> usize
 // step does it, but for lists of more than 8,191 numbers.
 fn shortened(sums: &[u64], v: u64) -> Window
     requires sorted { Sorted sums.now }
-    requires v_in_bounds { first_above sums.now v < length sums.now }
+    requires one_above { first_above sums.now v < length sums.now }
     ensures { FirstAboveIn sums.now v result.low result.size }
 {
     let mut w = Window {
@@ -134,7 +134,7 @@ fn shortened(sums: &[u64], v: u64) -> Window
 fn halved(sums: &[u64], v: u64, w: Window, half: usize) -> Window
     requires sorted { Sorted sums.now }
     requires first_above_in { FirstAboveIn sums.now v w.low w.size }
-    requires half_nonzero { (0 < half) × (half ≤ 1024) }
+    requires half_range { (0 < half) × (half ≤ 1024) }
     ensures { FirstAboveIn sums.now v result.low result.size }
 {
     if w.size != 2 * half - 1 {
@@ -147,7 +147,7 @@ fn halved(sums: &[u64], v: u64, w: Window, half: usize) -> Window
 fn quartered(sums: &[u64], v: u64, w: Window, quarter: usize) -> Window
     requires sorted { Sorted sums.now }
     requires first_above_in { FirstAboveIn sums.now v w.low w.size }
-    requires quarter_nonzero { (0 < quarter) × (quarter ≤ 1024) }
+    requires quarter_range { (0 < quarter) × (quarter ≤ 1024) }
     ensures { FirstAboveIn sums.now v result.low result.size }
 {
     if w.size != 4 * quarter - 1 {
@@ -160,7 +160,7 @@ fn quartered(sums: &[u64], v: u64, w: Window, quarter: usize) -> Window
 fn stepped(sums: &[u64], v: u64, w: Window, part: usize) -> Window
     requires sorted { Sorted sums.now }
     requires first_above_in { FirstAboveIn sums.now v w.low w.size }
-    requires part_nonzero { (0 < part) × (part ≤ 1024) }
+    requires part_range { (0 < part) × (part ≤ 1024) }
     ensures { FirstAboveIn sums.now v result.low result.size }
 {
     let next = quartered(sums, v, w, part);
@@ -170,7 +170,7 @@ fn stepped(sums: &[u64], v: u64, w: Window, part: usize) -> Window
 // The smallest place of a sorted list whose number exceeds v, where there is one.
 pub fn first_above(sums: &[u64], v: u64) -> usize
     requires sorted { Sorted sums.now }
-    requires v_in_bounds { first_above sums.now v < length sums.now }
+    requires one_above { first_above sums.now v < length sums.now }
     ensures { result ≡ first_above sums.now v }
 {
     let whole = shortened(sums, v);

@@ -22,45 +22,45 @@ use types::ValidatorIndex;
 use words::Words;
 
 // A sampler that picks one validator.
-#[derive(Drop)]
+#[derive(Clone, Copy, Drop)]
 pub struct StakeWeightedSampler {}
 
 // A sampler that picks a committee of k, each seat by itself.
-#[derive(Drop)]
+#[derive(Clone, Copy, Drop)]
 pub struct IidQuorumSampler {
     inner: StakeWeightedSampler,
     k: usize,
 }
 
 // A validator that was picked, and how many words were read.
-#[derive(Drop)]
+#[derive(Clone, Copy, Drop)]
 pub struct Sample {
     pub id: ValidatorIndex,
     pub words_read: usize,
 }
 
 // What `sample` answers. A refusal is its number.
-#[derive(Drop)]
+#[derive(Clone, Copy, Drop)]
 pub enum SampleAnswer {
     Accepted(Sample),
     Refused(u64),
 }
 
 // A committee, whose seats stand in the lent buffer: how many words were read.
-#[derive(Drop)]
+#[derive(Clone, Copy, Drop)]
 pub struct Quorum {
     pub words_read: usize,
 }
 
 // What `sample_quorum` answers, likewise.
-#[derive(Drop)]
+#[derive(Clone, Copy, Drop)]
 pub enum QuorumAnswer {
     Accepted(Quorum),
     Refused(u64),
 }
 
 // How drawing seats ends.
-#[derive(Drop)]
+#[derive(Clone, Copy, Drop)]
 pub enum Seats {
     Drawn,
     NoWord,
@@ -123,7 +123,7 @@ impl IidQuorumSampler {
 // One validator by one draw below the sum of the stakes.
 fn draw_one(stakes: &[u64], sum: u64, list: &[u64], cursor: usize) -> SampleAnswer
     requires sum_value { sum ≡ total stakes.now }
-    requires stakes_nonzero { 0 < total stakes.now }
+    requires total_nonzero { 0 < total stakes.now }
     ensures { result ≡ sample_answer (drop cursor list.now) (weighted stakes.now (drop cursor list.now)) }
 {
     let mut words = words::listed(list, cursor);
@@ -165,7 +165,7 @@ pub fn draw_seats(
     seats: &mut [u64],
 ) -> Seats
     requires sums_value { sums.now ≡ running_sums weights.now }
-    requires weights_nonzero { 0 < total weights.now }
+    requires total_nonzero { 0 < total weights.now }
     ensures { seats_says result seats.new (stream list.now words.new) ≡ iid_seats (length seats.old) weights.now (stream list.now words.old) }
 {
     let sum = sums[sums.len() - 1];
@@ -195,8 +195,8 @@ fn fill_quorum(
     seats: &mut [u64],
 ) -> QuorumAnswer
     requires sums_value { sums.now ≡ running_sums stakes.now }
-    requires stakes_nonzero { 0 < total stakes.now }
-    requires drawn_in_bounds { length drawn.old ≤ length seats.old }
+    requires total_nonzero { 0 < total stakes.now }
+    requires seats_room { length drawn.old ≤ length seats.old }
     ensures value { result ≡ quorum_answer (drop cursor list.now) (iid (length drawn.old) stakes.now (drop cursor list.now)) }
     ensures seats_after { seats.new ≡ buffer_after (iid (length drawn.old) stakes.now (drop cursor list.now)) ids seats.old }
 {
@@ -223,9 +223,9 @@ fn quorum_in_scratch(
     drawn: &mut [u64],
     seats: &mut [u64],
 ) -> QuorumAnswer
-    requires seats_value { lowest (size_checks (length stakes.now) k (length seats.old)) ≡ None }
-    requires stakes_in_bounds { length stakes.now ≤ length sums.old }
-    requires k_in_bounds { k ≤ length drawn.old }
+    requires sizes_pass { lowest (size_checks (length stakes.now) k (length seats.old)) ≡ None }
+    requires sums_room { length stakes.now ≤ length sums.old }
+    requires drawn_room { k ≤ length drawn.old }
     ensures value { result ≡ quorum_answer (drop cursor list.now) (quorum stakes.now k (length seats.old) (drop cursor list.now)) }
     ensures seats_after { seats.new ≡ buffer_after (quorum stakes.now k (length seats.old) (drop cursor list.now)) ids seats.old }
 {
@@ -246,8 +246,8 @@ fn quorum_by_length(
     drawn: &mut [u64],
     seats: &mut [u64],
 ) -> QuorumAnswer
-    requires seats_value { lowest (size_checks (length stakes.now) k (length seats.old)) ≡ None }
-    requires k_in_bounds { k ≤ length drawn.old }
+    requires sizes_pass { lowest (size_checks (length stakes.now) k (length seats.old)) ≡ None }
+    requires drawn_room { k ≤ length drawn.old }
     ensures value { result ≡ quorum_answer (drop cursor list.now) (quorum stakes.now k (length seats.old) (drop cursor list.now)) }
     ensures seats_after { seats.new ≡ buffer_after (quorum stakes.now k (length seats.old) (drop cursor list.now)) ids seats.old }
 {

@@ -24,8 +24,8 @@ fn block_sum(sums: &[u64], first: usize) -> u64
 
 // The sums of so many blocks of sixteen, from place `first` on, written from place `to` on.
 fn sum_blocks(sums: &mut [u64], first: usize, to: usize, count: usize)
-    requires count_bound { to + count ≤ first }
-    requires count_in_bounds { first + 16 * count ≤ length sums.old }
+    requires no_overlap { to + count ≤ first }
+    requires blocks_in_bounds { first + 16 * count ≤ length sums.old }
     requires sums_bound { total (take (16 * count) (drop first sums.old)) < 2 ^ 64 }
     ensures { sums.new ≡ take to sums.old ++ (blocks count (drop first sums.old) ++ drop (to + count) sums.old) }
 {

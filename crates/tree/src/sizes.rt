@@ -4,7 +4,7 @@ ghost use Rattle.tree.specs.Sizes.{sizes};
 
 // The nodes of a full tree that could hold so many weights as leaves, and those that have children: nodes without are never
 // looked at, and a tree needs room for the others alone.
-#[derive(Drop)]
+#[derive(Clone, Copy, Drop)]
 pub struct Sizes {
     pub num_nodes: usize,
     pub tree_size: usize,

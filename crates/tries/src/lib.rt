@@ -13,28 +13,28 @@ use draws::{fraction, weighted};
 use words::Words;
 
 // A try: the place that was drawn, and whether it is taken.
-#[derive(Drop)]
+#[derive(Clone, Copy, Drop)]
 pub struct Try {
     pub place: Place,
     pub taken: bool,
 }
 
 // What a try gives.
-#[derive(Drop)]
+#[derive(Clone, Copy, Drop)]
 pub enum Tried {
     Made(Try),
     NoWord,
 }
 
 // A seat, and how many tries were made for it.
-#[derive(Drop)]
+#[derive(Clone, Copy, Drop)]
 pub struct Seat {
     pub place: Place,
     pub tries: usize,
 }
 
 // What drawing a seat gives: the seat, or 12 or 13.
-#[derive(Drop)]
+#[derive(Clone, Copy, Drop)]
 pub enum DrawnSeat {
     Drawn(Seat),
     Refused(u64),
@@ -58,8 +58,8 @@ fn make_try(
     max_samples: f64,
 ) -> Tried
     requires sums_value { sums.now ≡ running_sums stakes.now }
-    requires stakes_nonzero { 0 < total stakes.now }
-    requires stakes_in_bounds { length stakes.now ≤ length counts.now }
+    requires total_nonzero { 0 < total stakes.now }
+    requires counts_room { length stakes.now ≤ length counts.now }
     ensures { tried_says result (stream list.now words.new) ≡ try stakes.now counts.now max_samples (stream list.now words.old) }
 {
     match weighted::draw_weighted(list, words, stakes, sums) {
@@ -89,8 +89,8 @@ pub fn draw_seat(
     tries_allowed: usize,
 ) -> DrawnSeat
     requires sums_value { sums.now ≡ running_sums stakes.now }
-    requires stakes_nonzero { 0 < total stakes.now }
-    requires stakes_in_bounds { length stakes.now ≤ length counts.now }
+    requires total_nonzero { 0 < total stakes.now }
+    requires counts_room { length stakes.now ≤ length counts.now }
     ensures { seat_says result (stream list.now words.new) ≡ seat tries_allowed 0 stakes.now counts.now max_samples (stream list.now words.old) }
 {
     let mut tries = 0;

@@ -10,14 +10,14 @@ pub enum Parent {
 }
 
 // A view, and how many words its order took.
-#[derive(Drop)]
+#[derive(Clone, Copy, Drop)]
 pub struct View {
     pub tree: TurbineTree,
     pub words_read: usize,
 }
 
 // A refusal is its number.
-#[derive(Drop)]
+#[derive(Clone, Copy, Drop)]
 pub enum ViewAnswer {
     Accepted(View),
     Refused(u64),

@@ -39,8 +39,8 @@ pub fn parent_at(order: &[u64], p: usize, fanout: usize) -> Parent
 
 // Stores the children of position p: how many they are.
 pub fn store_children(order: &[u64], p: usize, fanout: usize, children: &mut [u64]) -> usize
-    requires p_bound { (p ≤ 4096) × (fanout ≤ 4096) }
-    requires order_in_bounds { min fanout (length order.now) ≤ length children.old }
+    requires place_and_fanout { (p ≤ 4096) × (fanout ≤ 4096) }
+    requires children_room { min fanout (length order.now) ≤ length children.old }
     ensures value { result ≡ length (children_at fanout order.now p) }
     ensures children_after { children.new ≡ children_at fanout order.now p ++ drop (length (children_at fanout order.now p)) children.old }
 {

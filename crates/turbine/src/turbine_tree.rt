@@ -98,9 +98,9 @@ fn tree_of(
     own_id: ValidatorIndex,
     children: &mut [u64],
 ) -> TurbineTree
-    requires order_nonzero { (0 < length order.now) × (length order.now ≤ 4096) }
-    requires fanout_nonzero { (0 < fanout) × (fanout ≤ 4096) }
-    requires order_in_bounds { min fanout (length order.now) ≤ length children.old }
+    requires order_len_range { (0 < length order.now) × (length order.now ≤ 4096) }
+    requires fanout_range { (0 < fanout) × (fanout ≤ 4096) }
+    requires children_room { min fanout (length order.now) ≤ length children.old }
     ensures value { result ≡ tree_of (neighborhood fanout own_id.0 order.now) }
     ensures children_after { children.new ≡ (neighborhood fanout own_id.0 order.now).children ++ drop (length (neighborhood fanout own_id.0 order.now).children) children.old }
 {
@@ -123,9 +123,9 @@ pub fn view_of(
     own_id: ValidatorIndex,
     children: &mut [u64],
 ) -> ViewAnswer
-    requires n_nonzero { (0 < n) × ((n ≤ 4096) × (n ≤ length order.now)) }
-    requires fanout_nonzero { (0 < fanout) × (fanout ≤ 4096) }
-    requires n_in_bounds { min fanout n ≤ length children.old }
+    requires n_range { (0 < n) × ((n ≤ 4096) × (n ≤ length order.now)) }
+    requires fanout_range { (0 < fanout) × (fanout ≤ 4096) }
+    requires children_room { min fanout n ≤ length children.old }
     ensures value { result ≡ answer_by shuffled (neighborhood fanout own_id.0 (take n order.now)) }
     ensures children_after { children.new ≡ children_by shuffled (neighborhood fanout own_id.0 (take n order.now)) children.old }
 {

@@ -8,7 +8,7 @@ use types::ValidatorIndex;
 
 // The answer, and whether the nodes are as they are to be: those of the tree zeros, and the others, or all where the call is refused,
 // as before.
-#[derive(Drop)]
+#[derive(Clone, Copy, Drop)]
 pub struct Run {
     pub answer: ViewAnswer,
     pub same_nodes: bool,

@@ -3,7 +3,7 @@ ghost use Rattle.std.specs.Prelude.{◌≡◌, length};
 ghost use Rattle.types.specs.Decimal.{digits, formatted, buffer_after};
 
 // What writing digits to a lent buffer gives.
-#[derive(Drop)]
+#[derive(Clone, Copy, Drop)]
 pub enum Formatted {
     // How many digits now stand at the front of the buffer.
     Written(usize),

@@ -3,7 +3,7 @@ ghost use Rattle.std.specs.Prelude.{◌≡◌};
 ghost use Rattle.types.specs.Ordering.{compare};
 
 // How one value stands to another.
-#[derive(Drop)]
+#[derive(Clone, Copy, Drop)]
 pub enum Ordering {
     Less,
     Equal,

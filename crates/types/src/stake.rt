@@ -13,7 +13,7 @@ use crate::ordering::{Ordering, compare};
 pub struct Stake(u64);
 
 // What arithmetic on stakes gives.
-#[derive(Drop)]
+#[derive(Clone, Copy, Drop)]
 pub enum CheckedStake {
     // The exact result.
     Some(Stake),

@@ -30,7 +30,7 @@ pub extern "C" fn valwydr_partition_sample_quorum(
     piece_stakes: &mut [u64],
     answer: &mut [u64; 3],
 ) -> u64
-    ensures r_value { result ≡ result_code (partition_told (partition_answer (drop first_cursor first.now) (drop second_cursor second.now) (partition.quorum stakes.now num_bins (lent seats.old piece_bins.old piece_validators.old piece_stakes.old) (drop first_cursor first.now) (drop second_cursor second.now)))) }
+    ensures value { result ≡ result_code (partition_told (partition_answer (drop first_cursor first.now) (drop second_cursor second.now) (partition.quorum stakes.now num_bins (lent seats.old piece_bins.old piece_validators.old piece_stakes.old) (drop first_cursor first.now) (drop second_cursor second.now)))) }
     ensures seats_after { seats.new ≡ buffer_after (partition.quorum stakes.now num_bins (lent seats.old piece_bins.old piece_validators.old piece_stakes.old) (drop first_cursor first.now) (drop second_cursor second.now)) parted.seat_ids seats.old }
     ensures piece_bins_after { piece_bins.new ≡ buffer_after (partition.quorum stakes.now num_bins (lent seats.old piece_bins.old piece_validators.old piece_stakes.old) (drop first_cursor first.now) (drop second_cursor second.now)) parted.piece_bins_of piece_bins.old }
     ensures piece_validators_after { piece_validators.new ≡ buffer_after (partition.quorum stakes.now num_bins (lent seats.old piece_bins.old piece_validators.old piece_stakes.old) (drop first_cursor first.now) (drop second_cursor second.now)) parted.piece_validators_of piece_validators.old }
@@ -70,7 +70,7 @@ pub extern "C" fn valwydr_fait_accompli1_with_partition_fallback(
     piece_stakes: &mut [u64],
     answer: &mut [u64; 4],
 ) -> u64
-    ensures r_value { result ≡ result_code (committee_told (committee_answer (drop first_cursor first.now) (drop second_cursor second.now) (committee.quorum (Bins k) stakes.now (lent seats.old piece_bins.old piece_validators.old piece_stakes.old) (drop first_cursor first.now) (drop second_cursor second.now)))) }
+    ensures value { result ≡ result_code (committee_told (committee_answer (drop first_cursor first.now) (drop second_cursor second.now) (committee.quorum (Bins k) stakes.now (lent seats.old piece_bins.old piece_validators.old piece_stakes.old) (drop first_cursor first.now) (drop second_cursor second.now)))) }
     ensures seats_after { seats.new ≡ buffer_after (committee.quorum (Bins k) stakes.now (lent seats.old piece_bins.old piece_validators.old piece_stakes.old) (drop first_cursor first.now) (drop second_cursor second.now)) seats_of seats.old }
     ensures piece_bins_after { piece_bins.new ≡ buffer_after (committee.quorum (Bins k) stakes.now (lent seats.old piece_bins.old piece_validators.old piece_stakes.old) (drop first_cursor first.now) (drop second_cursor second.now)) piece_bins_of piece_bins.old }
     ensures piece_validators_after { piece_validators.new ≡ buffer_after (committee.quorum (Bins k) stakes.now (lent seats.old piece_bins.old piece_validators.old piece_stakes.old) (drop first_cursor first.now) (drop second_cursor second.now)) piece_validators_of piece_validators.old }
@@ -105,7 +105,7 @@ pub extern "C" fn valwydr_fait_accompli1_with_stake_weighted_fallback(
     seats: &mut [u64],
     answer: &mut [u64; 4],
 ) -> u64
-    ensures r_value { result ≡ result_code (committee_told (committee_answer (drop cursor list.now) [] (committee.quorum (Draws k) stakes.now (lent seats.old [] [] []) (drop cursor list.now) []))) }
+    ensures value { result ≡ result_code (committee_told (committee_answer (drop cursor list.now) [] (committee.quorum (Draws k) stakes.now (lent seats.old [] [] []) (drop cursor list.now) []))) }
     ensures seats_after { seats.new ≡ buffer_after (committee.quorum (Draws k) stakes.now (lent seats.old [] [] []) (drop cursor list.now) []) seats_of seats.old }
     ensures answer_after { answer.new ≡ array (committee_told (committee_answer (drop cursor list.now) [] (committee.quorum (Draws k) stakes.now (lent seats.old [] [] []) (drop cursor list.now) []))) answer.old }
 {

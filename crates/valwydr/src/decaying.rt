@@ -19,7 +19,7 @@ pub extern "C" fn valwydr_decaying_acceptance_sample_one(
     cursor: usize,
     answer: &mut [u64; 3],
 ) -> u64
-    ensures r_value { result ≡ result_code (tried_told (sample_answer (drop cursor list.now) (one tries_allowed stakes.now counts.old max_samples (drop cursor list.now)))) }
+    ensures value { result ≡ result_code (tried_told (sample_answer (drop cursor list.now) (one tries_allowed stakes.now counts.old max_samples (drop cursor list.now)))) }
     ensures counts_after { counts.new ≡ counts_after (one tries_allowed stakes.now counts.old max_samples (drop cursor list.now)) counts.old }
     ensures answer_after { answer.new ≡ array (tried_told (sample_answer (drop cursor list.now) (one tries_allowed stakes.now counts.old max_samples (drop cursor list.now)))) answer.old }
 {
@@ -41,7 +41,7 @@ pub extern "C" fn valwydr_decaying_acceptance_sample_quorum(
     seats: &mut [u64],
     answer: &mut [u64; 2],
 ) -> u64
-    ensures r_value { result ≡ result_code (tried_quorum_told (quorum_answer (drop cursor list.now) (quorum k (length seats.old) tries_allowed stakes.now counts.old max_samples (drop cursor list.now)))) }
+    ensures value { result ≡ result_code (tried_quorum_told (quorum_answer (drop cursor list.now) (quorum k (length seats.old) tries_allowed stakes.now counts.old max_samples (drop cursor list.now)))) }
     ensures counts_after { counts.new ≡ buffer_after (quorum k (length seats.old) tries_allowed stakes.now counts.old max_samples (drop cursor list.now)) (zeros stakes.now) counts.old }
     ensures seats_after { seats.new ≡ buffer_after (quorum k (length seats.old) tries_allowed stakes.now counts.old max_samples (drop cursor list.now)) seat_ids seats.old }
     ensures answer_after { answer.new ≡ array (tried_quorum_told (quorum_answer (drop cursor list.now) (quorum k (length seats.old) tries_allowed stakes.now counts.old max_samples (drop cursor list.now)))) answer.old }

@@ -16,7 +16,7 @@ pub extern "C" fn valwydr_stake_weighted_sample(
     cursor: usize,
     answer: &mut [u64; 2],
 ) -> u64
-    ensures r_value { result ≡ result_code (sample_told (sample_answer (drop cursor list.now) (sample stakes.now (drop cursor list.now)))) }
+    ensures value { result ≡ result_code (sample_told (sample_answer (drop cursor list.now) (sample stakes.now (drop cursor list.now)))) }
     ensures answer_after { answer.new ≡ array (sample_told (sample_answer (drop cursor list.now) (sample stakes.now (drop cursor list.now)))) answer.old }
 {
     let sampler = StakeWeightedSampler::new();
@@ -33,7 +33,7 @@ pub extern "C" fn valwydr_iid_sample_quorum(
     seats: &mut [u64],
     answer: &mut [u64; 1],
 ) -> u64
-    ensures r_value { result ≡ result_code (quorum_told (quorum_answer (drop cursor list.now) (quorum stakes.now k (length seats.old) (drop cursor list.now)))) }
+    ensures value { result ≡ result_code (quorum_told (quorum_answer (drop cursor list.now) (quorum stakes.now k (length seats.old) (drop cursor list.now)))) }
     ensures seats_after { seats.new ≡ buffer_after (quorum stakes.now k (length seats.old) (drop cursor list.now)) ids seats.old }
     ensures answer_after { answer.new ≡ array (quorum_told (quorum_answer (drop cursor list.now) (quorum stakes.now k (length seats.old) (drop cursor list.now)))) answer.old }
 {

@@ -34,7 +34,7 @@ pub extern "C" fn valwydr_weighted_shuffle(
     nodes: &mut [Node],
     answer: &mut [u64; 1],
 ) -> u64
-    ensures r_value { result ≡ result_code (shuffle_told (shuffle_answer (drop cursor list.now) (shuffled weights.now (length order.old) (length nodes.old) (drop cursor list.now)))) }
+    ensures value { result ≡ result_code (shuffle_told (shuffle_answer (drop cursor list.now) (shuffled weights.now (length order.old) (length nodes.old) (drop cursor list.now)))) }
     ensures order_after { order.new ≡ buffer_after (shuffled weights.now (length order.old) (length nodes.old) (drop cursor list.now)) (λ ps. ps) order.old }
     ensures nodes_after { nodes.new ≡ nodes_after (shuffled weights.now (length order.old) (length nodes.old) (drop cursor list.now)) (tree.sizes (length weights.now)).tree_size nodes.old }
     ensures answer_after { answer.new ≡ array (shuffle_told (shuffle_answer (drop cursor list.now) (shuffled weights.now (length order.old) (length nodes.old) (drop cursor list.now)))) answer.old }
@@ -58,7 +58,7 @@ pub extern "C" fn valwydr_turbine_tree_new(
     children: &mut [u64],
     answer: &mut [u64; 4],
 ) -> u64
-    ensures r_value { result ≡ result_code (view_told (view_answer (drop cursor list.now) (view_call stakes.now fanout own_id list.now cursor order.old nodes.old children.old))) }
+    ensures value { result ≡ result_code (view_told (view_answer (drop cursor list.now) (view_call stakes.now fanout own_id list.now cursor order.old nodes.old children.old))) }
     ensures order_after { order.new ≡ buffer_after (view_call stakes.now fanout own_id list.now cursor order.old nodes.old children.old) (λ v. v.order) order.old }
     ensures nodes_after { nodes.new ≡ nodes_after (view_call stakes.now fanout own_id list.now cursor order.old nodes.old children.old) (tree.sizes (length stakes.now)).tree_size nodes.old }
     ensures children_after { children.new ≡ buffer_after (view_call stakes.now fanout own_id list.now cursor order.old nodes.old children.old) (λ v. v.children) children.old }

@@ -9,43 +9,43 @@ use types::{Stake, ValidatorIndex};
 
 // The stake divided by the divisor, rounded up.
 #[unsafe(no_mangle)]
-pub extern "C" fn valwydr_stake_div_ceil(stake: u64, divisor: u64, res: &mut u64) -> bool
+pub extern "C" fn valwydr_stake_div_ceil(stake: u64, divisor: u64, stored: &mut u64) -> bool
     ensures value { result ≡ is_stake (checked_div_ceil stake divisor) }
-    ensures res_after { res.new ≡ stake_after (checked_div_ceil stake divisor) res.old }
+    ensures stored_after { stored.new ≡ stake_after (checked_div_ceil stake divisor) stored.old }
 {
-    answers::tell_stake(Stake::new(stake).div_ceil(divisor), res)
+    answers::tell_stake(Stake::new(stake).div_ceil(divisor), stored)
 }
 
 #[unsafe(no_mangle)]
-pub extern "C" fn valwydr_stake_checked_add(stake: u64, rhs: u64, res: &mut u64) -> bool
+pub extern "C" fn valwydr_stake_checked_add(stake: u64, rhs: u64, stored: &mut u64) -> bool
     ensures value { result ≡ is_stake (checked (stake + rhs)) }
-    ensures res_after { res.new ≡ stake_after (checked (stake + rhs)) res.old }
+    ensures stored_after { stored.new ≡ stake_after (checked (stake + rhs)) stored.old }
 {
-    answers::tell_stake(Stake::new(stake).checked_add(Stake::new(rhs)), res)
+    answers::tell_stake(Stake::new(stake).checked_add(Stake::new(rhs)), stored)
 }
 
 #[unsafe(no_mangle)]
-pub extern "C" fn valwydr_stake_sub(stake: u64, rhs: u64, res: &mut u64) -> bool
+pub extern "C" fn valwydr_stake_sub(stake: u64, rhs: u64, stored: &mut u64) -> bool
     ensures value { result ≡ is_stake (checked_sub stake rhs) }
-    ensures res_after { res.new ≡ stake_after (checked_sub stake rhs) res.old }
+    ensures stored_after { stored.new ≡ stake_after (checked_sub stake rhs) stored.old }
 {
-    answers::tell_stake(Stake::new(stake).sub(Stake::new(rhs)), res)
+    answers::tell_stake(Stake::new(stake).sub(Stake::new(rhs)), stored)
 }
 
 #[unsafe(no_mangle)]
-pub extern "C" fn valwydr_stake_mul(stake: u64, rhs: u64, res: &mut u64) -> bool
+pub extern "C" fn valwydr_stake_mul(stake: u64, rhs: u64, stored: &mut u64) -> bool
     ensures value { result ≡ is_stake (checked (stake * rhs)) }
-    ensures res_after { res.new ≡ stake_after (checked (stake * rhs)) res.old }
+    ensures stored_after { stored.new ≡ stake_after (checked (stake * rhs)) stored.old }
 {
-    answers::tell_stake(Stake::new(stake).mul(rhs), res)
+    answers::tell_stake(Stake::new(stake).mul(rhs), stored)
 }
 
 #[unsafe(no_mangle)]
-pub extern "C" fn valwydr_stake_sum(stakes: &[u64], res: &mut u64) -> bool
+pub extern "C" fn valwydr_stake_sum(stakes: &[u64], stored: &mut u64) -> bool
     ensures value { result ≡ is_stake (checked (total stakes.now)) }
-    ensures res_after { res.new ≡ stake_after (checked (total stakes.now)) res.old }
+    ensures stored_after { stored.new ≡ stake_after (checked (total stakes.now)) stored.old }
 {
-    answers::tell_stake(Stake::sum(stakes), res)
+    answers::tell_stake(Stake::sum(stakes), stored)
 }
 
 // The stake in decimal digits, written to the front of the buffer.

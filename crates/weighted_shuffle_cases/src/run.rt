@@ -5,7 +5,7 @@ use weighted_shuffle::shuffle;
 
 // The answer, and whether the nodes are as they are to be: those of the tree zeros, and the others, or all where the call is refused,
 // as before.
-#[derive(Drop)]
+#[derive(Clone, Copy, Drop)]
 pub struct Run {
     pub answer: ShuffleAnswer,
     pub same_nodes: bool,

@@ -13,7 +13,7 @@ ghost use Rattle.words.specs.Answers.{word_says};
 pub type Words = [u64; 1];
 
 // What reading a word gives.
-#[derive(Drop)]
+#[derive(Clone, Copy, Drop)]
 pub enum Word {
     Got(u64),
     NoWord,
@@ -35,8 +35,8 @@ fn held(words: &Words) -> Words
 
 // Reads the next word.
 pub fn next_word(list: &[u64], words: &mut Words) -> Word
-    ensures words_after { word_says result (stream list.now words.new) ≡ read (stream list.now words.old) }
-    ensures words_after_2 { stream list.now words.new ≡ left_after (read (stream list.now words.old)) }
+    ensures outcome { word_says result (stream list.now words.new) ≡ read (stream list.now words.old) }
+    ensures words_after { stream list.now words.new ≡ left_after (read (stream list.now words.old)) }
 {
     held(words);
     let at = words[0] as usize;

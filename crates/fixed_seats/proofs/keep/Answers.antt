@@ -10,8 +10,8 @@ use Rattle.fixed_seats.proofs.keep.Goals.{After-fixed_seats-held, After-kept_sta
 use Rattle.fixed_seats.proofs.keep.Goals as goal
 
 -- the clauses, by their names
-clauses : {A B C : Type 0} → A × (B × C) → record { divided : A; k_bound : B; fixed_bound : C }
-clauses p = record { divided = p.0; k_bound = p.1.0; fixed_bound = p.1.1 }
+clauses : {A B C : Type 0} → A × (B × C) → record { divided : A; fixed_within_stake : B; fixed_bound : C }
+clauses p = record { divided = p.0; fixed_within_stake = p.1.0; fixed_bound = p.1.1 }
 
 -- a stake's fixed seats, and what it keeps
 held : (c : After-fixed_seats-held) →

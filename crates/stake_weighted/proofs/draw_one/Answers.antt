@@ -15,12 +15,12 @@ use Rattle.stake_weighted.proofs.draw_one.Goals as goal
 -- what the draw says in an arm
 says : (c : After-draw_below) (r : Below) → c.draw_below.result ≡ r → below_says r (stream c.args.list.now c.draw_below.new.words) ≡ below (total c.args.stakes.now) (stream c.args.list.now c.listed-words.result)
 says c r e =
-    sym (ap (λ (x : Below). below_says x (stream c.args.list.now c.draw_below.new.words)) e) ∙ c.draw_below.ensures.words_after
+    sym (ap (λ (x : Below). below_says x (stream c.args.list.now c.draw_below.new.words)) e) ∙ c.draw_below.ensures.outcome
     ∙ ap (λ (m : ℕ). below m (stream c.args.list.now c.listed-words.result)) c.requires.sum_value
 
 pub walked_place-place-requires : goal.walked_place-place-requires
 walked_place-place-requires c =
-    drawn_lt (total c.args.stakes.now) c.requires.stakes_nonzero (stream c.args.list.now c.listed-words.result) (sym (says (goal.at.walked_place-place-requires c).After-draw_below (Value c.in-Value.v) c.in-Value.is))
+    drawn_lt (total c.args.stakes.now) c.requires.total_nonzero (stream c.args.list.now c.listed-words.result) (sym (says (goal.at.walked_place-place-requires c).After-draw_below (Value c.in-Value.v) c.in-Value.is))
 
 pub overflow_sub-result : goal.overflow_sub-result
 overflow_sub-result c =

@@ -18,13 +18,13 @@ use Rattle.stake_weighted.proofs.draw_seats.Goals.{After-draw_below, In-Value}
 use Rattle.stake_weighted.proofs.draw_seats.Goals as goal
 
 -- the clauses, by their names
-clauses : {A B : Type 0} → A × B → record { sorted : A; v_in_bounds : B }
-clauses p = record { sorted = p.0; v_in_bounds = p.1 }
+clauses : {A B : Type 0} → A × B → record { sorted : A; one_above : B }
+clauses p = record { sorted = p.0; one_above = p.1 }
 
 drawn-in-In-Value : (c : In-Value) →
     below_says c.draw_below.result (stream c.args.list.now c.draw_below.new.words) ≡ below (total c.args.weights.now) (stream c.args.list.now c.loop-i.words)
 drawn-in-In-Value c =
-    c.draw_below.ensures.words_after ∙ ap (λ (m : ℕ). below m (stream c.args.list.now c.loop-i.words)) c.loop-i.invariant.1
+    c.draw_below.ensures.outcome ∙ ap (λ (m : ℕ). below m (stream c.args.list.now c.loop-i.words)) c.loop-i.invariant.1
 
 -- and of a value
 valued : (c : In-Value) →
@@ -35,22 +35,22 @@ valued c =
 less : (c : In-Value) →
     c.in-Value.v < total c.args.weights.now
 less c =
-    drawn_lt (total c.args.weights.now) c.requires.weights_nonzero (stream c.args.list.now c.loop-i.words) (sym (valued c))
+    drawn_lt (total c.args.weights.now) c.requires.total_nonzero (stream c.args.list.now c.loop-i.words) (sym (valued c))
 
 -- what the draw below the sum said
 drawn : (c : After-draw_below) →
     below_says c.draw_below.result (stream c.args.list.now c.draw_below.new.words) ≡ below (total c.args.weights.now) (stream c.args.list.now c.loop-i.words)
 drawn c =
-    c.draw_below.ensures.words_after ∙ ap (λ (m : ℕ). below m (stream c.args.list.now c.loop-i.words)) c.loop-i.invariant.1
+    c.draw_below.ensures.outcome ∙ ap (λ (m : ℕ). below m (stream c.args.list.now c.loop-i.words)) c.loop-i.invariant.1
 
 pub overflow_sub-sum : goal.overflow_sub-sum
-overflow_sub-sum c = (last c.args.weights.now c.args.sums.now c.requires.sums_value c.requires.weights_nonzero).some
+overflow_sub-sum c = (last c.args.weights.now c.args.sums.now c.requires.sums_value c.requires.total_nonzero).some
 
 pub bounds-sums-sums : goal.bounds-sums-sums
-bounds-sums-sums c = omega (arith, (last c.args.weights.now c.args.sums.now c.requires.sums_value c.requires.weights_nonzero).some)
+bounds-sums-sums c = omega (arith, (last c.args.weights.now c.args.sums.now c.requires.sums_value c.requires.total_nonzero).some)
 
 pub loop-i-init : goal.loop-i-init
-loop-i-init c = (drawing_none _ _ _, (last c.args.weights.now c.args.sums.now c.requires.sums_value c.requires.weights_nonzero).is)
+loop-i-init c = (drawing_none _ _ _, (last c.args.weights.now c.args.sums.now c.requires.sums_value c.requires.total_nonzero).is)
 
 pub first_above-at-requires : goal.first_above-at-requires
 first_above-at-requires c =

@@ -20,15 +20,15 @@ says-in-In-Drawn c r e = sym (ap (λ (x : DrawnSeat). seat_says x (stream c.args
 
 seat_here : (c : In-Drawn) → Seated c.args.stakes.now c.args.counts.now c.args.max_samples c.args.tries_allowed 0 c.in-Drawn.seat
 seat_here c =
-    seat_is c.args.stakes.now c.args.counts.now c.args.max_samples c.args.tries_allowed 0 (stream c.args.list.now c.listed-words.result) c.requires.stakes_nonzero
+    seat_is c.args.stakes.now c.args.counts.now c.args.max_samples c.args.tries_allowed 0 (stream c.args.list.now c.listed-words.result) c.requires.total_nonzero
     (sym (says-in-In-Drawn c (Drawn c.in-Drawn.seat) c.in-Drawn.is))
 
 count_lt : (c : In-Drawn) → c.in-Drawn.seat.place.at < length c.args.counts.now
-count_lt c = omega (arith, (seat_here c).place.within, c.requires.stakes_in_bounds)
+count_lt c = omega (arith, (seat_here c).place.within, c.requires.counts_room)
 
 count_rises : (c : In-Drawn) → get_or c.args.counts.now c.in-Drawn.seat.place.at 0 < 4294967295
 count_rises c =
-    omega (arith, counts_low c.args.counts.now (length c.args.stakes.now) 1 c.requires.stakes_in_bounds (omega arith) c.requires.stakes_value c.in-Drawn.seat.place.at (seat_here c).place.within)
+    omega (arith, counts_low c.args.counts.now (length c.args.stakes.now) 1 c.requires.counts_room (omega arith) c.requires.counts_pass c.in-Drawn.seat.place.at (seat_here c).place.within)
 
 -- what drawing the seat says in an arm
 says : (c : After-draw_seat) (r : DrawnSeat) →

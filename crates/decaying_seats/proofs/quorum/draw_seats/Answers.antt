@@ -23,12 +23,12 @@ says-in-In-Drawn c r e =
 
 seat_here : (c : In-Drawn) → Seated c.args.stakes.now c.loop-i.counts c.args.max_samples c.args.tries_allowed 0 c.in-Drawn.seat
 seat_here c =
-    seat_is c.args.stakes.now c.loop-i.counts c.args.max_samples c.args.tries_allowed 0 _ c.requires.stakes_nonzero
+    seat_is c.args.stakes.now c.loop-i.counts c.args.max_samples c.args.tries_allowed 0 _ c.requires.total_nonzero
     (sym (says-in-In-Drawn c (Drawn c.in-Drawn.seat) c.in-Drawn.is))
 
 count_lt : (c : In-Drawn) → c.in-Drawn.seat.place.at < length c.loop-i.counts
 count_lt c =
-    omega (arith, (seat_here c).place.within, c.loop-i.invariant.held, c.requires.stakes_in_bounds)
+    omega (arith, (seat_here c).place.within, c.loop-i.invariant.held, c.requires.counts_room)
 
 count_rises : (c : In-Drawn) → get_or c.loop-i.counts c.in-Drawn.seat.place.at 0 < 4294967295
 count_rises c =
@@ -44,7 +44,7 @@ says c r e =
 
 pub loop-i-init : goal.loop-i-init
 loop-i-init c =
-    drawing_none _ _ _ _ _ _ (counts_low c.args.counts.now (length c.args.stakes.now) (length c.args.seats.now) c.requires.stakes_in_bounds (omega (arith, c.requires.seats_len_bound)) c.requires.seats_value)
+    drawing_none _ _ _ _ _ _ (counts_low c.args.counts.now (length c.args.stakes.now) (length c.args.seats.now) c.requires.counts_room (omega (arith, c.requires.seats_len_bound)) c.requires.counts_pass)
 
 pub offset_bounds-counts-at : goal.offset_bounds-counts-at
 offset_bounds-counts-at c = omega (arith, count_lt (goal.at.offset_bounds-counts-at c).In-Drawn)

@@ -17,7 +17,7 @@ use Rattle.decaying_seats.proofs.quorum.fill_quorum.Goals as goal
 
 held_is-in-After-draw_seats : (c : After-draw_seats) → c.store_u32.new.buffer ≡ take (length c.args.stakes.now) c.args.counts.now
 held_is-in-After-draw_seats c =
-    front_held (length c.args.stakes.now) c.args.counts.now c.args.raised.now c.store_u32.new.buffer c.requires.raised_len c.requires.stakes_in_bounds c.store_u32.ensures
+    front_held (length c.args.stakes.now) c.args.counts.now c.args.raised.now c.store_u32.new.buffer c.requires.raised_len c.requires.counts_room c.store_u32.ensures
 
 -- what drawing says in an arm
 says : (c : After-draw_seats) (r : DrawnSeats) →

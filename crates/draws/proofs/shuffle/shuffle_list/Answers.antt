@@ -16,7 +16,7 @@ use Rattle.draws.proofs.shuffle.shuffle_list.Goals as goal
 some : (c : In-Value) →
     below (c.loop-i.i + 1) (stream c.args.list.now c.loop-i.words) ≡ accepted c.in-Value.v (stream c.args.list.now c.draw_below.new.words)
 some c =
-    sym c.draw_below.ensures.words_after ∙ ap (λ (r : Below). below_says r (stream c.args.list.now c.draw_below.new.words)) c.in-Value.is
+    sym c.draw_below.ensures.outcome ∙ ap (λ (r : Below). below_says r (stream c.args.list.now c.draw_below.new.words)) c.in-Value.is
 
 -- so it is a place of the list
 place_lt : (c : In-Value) → c.in-Value.v < length c.loop-i.items

@@ -5,8 +5,8 @@ use Rattle.draws.proofs.weighted.place_of.Goals.{After-first_above-at}
 use Rattle.draws.proofs.weighted.place_of.Goals as goal
 
 -- the clauses, by their names
-clauses : {A B : Type 0} → A × B → record { sorted : A; v_in_bounds : B }
-clauses p = record { sorted = p.0; v_in_bounds = p.1 }
+clauses : {A B : Type 0} → A × B → record { sorted : A; one_above : B }
+clauses p = record { sorted = p.0; one_above = p.1 }
 
 -- what the search found
 place : (c : After-first_above-at) →

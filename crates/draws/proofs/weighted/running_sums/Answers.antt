@@ -13,7 +13,7 @@ overflow_add-sum c =
 
 pub loop-i-preserved : goal.loop-i-preserved
 loop-i-preserved c =
-    summing_next _ _ c.loop-i.sums c.loop-i.sum c.loop-i.i c.loop-i-test.true c.requires.weights_in_bounds c.loop-i.invariant
+    summing_next _ _ c.loop-i.sums c.loop-i.sum c.loop-i.i c.loop-i-test.true c.requires.sums_room c.loop-i.invariant
 
 pub returns : goal.returns
 returns c =

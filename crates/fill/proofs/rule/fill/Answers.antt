@@ -9,16 +9,16 @@ use Rattle.fill.proofs.rule.fill.Goals as goal
 roomy_here : (c : Start) → Roomy (whole c.args.weights.now c.args.order.now c.args.capacity c.args.bins) c.args.piece_bins.now c.args.piece_validators.now c.args.piece_stakes.now
 roomy_here c =
     roomy c.args.weights.now c.args.order.now c.args.capacity c.args.bins c.args.piece_bins.now c.args.piece_validators.now c.args.piece_stakes.now
-    c.requires.bins_in_bounds c.requires.bins_in_bounds_2 c.requires.bins_in_bounds_3
+    c.requires.bins_room c.requires.validators_room c.requires.stakes_room
 
 pub loop-at-init : goal.loop-at-init
-loop-at-init c = filling_none _ _ _ _ _ _ _ c.requires.bins_nonzero c.requires.order_bound
+loop-at-init c = filling_none _ _ _ _ _ _ _ c.requires.bins_nonzero c.requires.total_fits
 
 pub put_piece-count-requires : goal.put_piece-count-requires
 put_piece-count-requires c =
     let r = roomy_here (goal.at.put_piece-count-requires c).Start in
     let f = room_fits _ _ _ _ c.loop-at.invariant c.loop-at-test.true _ refl (omega (arith, c.if-stake-room.true)) in
-    record { stake_in_bounds = omega (arith, f, r.by_bin, c.loop-at.invariant.held.by_bin.long); stake_in_bounds_2 = omega (arith, f, r.by_validator, c.loop-at.invariant.held.by_validator.long); stake_in_bounds_3 = omega (arith, f, r.by_stake, c.loop-at.invariant.held.by_stake.long) }
+    record { bins_room = omega (arith, f, r.by_bin, c.loop-at.invariant.held.by_bin.long); validators_room = omega (arith, f, r.by_validator, c.loop-at.invariant.held.by_validator.long); stakes_room = omega (arith, f, r.by_stake, c.loop-at.invariant.held.by_stake.long) }
 
 pub loop-at-preserved-then-stake-room : goal.loop-at-preserved-then-stake-room
 loop-at-preserved-then-stake-room c =
@@ -28,7 +28,7 @@ pub put_piece-count-requires-else-stake-room : goal.put_piece-count-requires-els
 put_piece-count-requires-else-stake-room c =
     let r = roomy_here (goal.at.put_piece-count-requires-else-stake-room c).Start in
     let f = room_over _ _ _ _ c.loop-at.invariant c.loop-at-test.true _ refl (omega (arith, c.if-stake-room.false)) in
-    record { stake_in_bounds = omega (arith, f, r.by_bin, c.loop-at.invariant.held.by_bin.long); stake_in_bounds_2 = omega (arith, f, r.by_validator, c.loop-at.invariant.held.by_validator.long); stake_in_bounds_3 = omega (arith, f, r.by_stake, c.loop-at.invariant.held.by_stake.long) }
+    record { bins_room = omega (arith, f, r.by_bin, c.loop-at.invariant.held.by_bin.long); validators_room = omega (arith, f, r.by_validator, c.loop-at.invariant.held.by_validator.long); stakes_room = omega (arith, f, r.by_stake, c.loop-at.invariant.held.by_stake.long) }
 
 pub loop-at-preserved : goal.loop-at-preserved
 loop-at-preserved c =

@@ -24,7 +24,7 @@ says : (c : After-draw_below) (r : Below) →
     c.draw_below.result ≡ r →
     below_says r (stream c.args.list.now c.draw_below.new.words) ≡ below c.if-left-capacity.bin (stream c.args.list.now c.loop-j.words)
 says c r e =
-    sym (ap (λ (x : Below). below_says x (stream c.args.list.now c.draw_below.new.words)) e) ∙ c.draw_below.ensures.words_after
+    sym (ap (λ (x : Below). below_says x (stream c.args.list.now c.draw_below.new.words)) e) ∙ c.draw_below.ensures.outcome
 
 pub loop-j-init : goal.loop-j-init
 loop-j-init c = valuing_none _ _ _ _

@@ -33,7 +33,7 @@ fill_and_choose-requires c =
     let g = ordered (goal.at.fill_and_choose-requires c).After-shuffle_ids _ c.in-Words.is in
     let r = ready c.args.weights.now c.args.sum c.args.capacity (length c.args.seats.now) (length c.args.order.now) c.requires.fillable c.requires.order_len (drop c.args.first_cursor c.args.first.now) (drop c.args.second_cursor c.args.second.now) g (valued (goal.at.fill_and_choose-requires c).After-draw_by _ c.in-Words-draw_by.is) (values_long (goal.at.fill_and_choose-requires c).After-draw_by) in
     let n = r.long in
-    let v = values_long (goal.at.fill_and_choose-requires c).After-draw_by in record { seats_nonzero = r.some; all_below = r.below; order_in_bounds = r.fits; order_bound = rw r.is c.ranges.sum.fits; low = r.low; seats_in_bounds = omega (arith, n, v, c.requires.seats_in_bounds); seats_in_bounds_2 = omega (arith, n, v, c.requires.seats_in_bounds_2); seats_in_bounds_3 = omega (arith, n, v, c.requires.seats_in_bounds_3) }
+    let v = values_long (goal.at.fill_and_choose-requires c).After-draw_by in record { seats_nonzero = r.some; all_below = r.below; total_fits = r.fits; total_bound = rw r.is c.ranges.sum.fits; low = r.low; bins_room = omega (arith, n, v, c.requires.bins_room); validators_room = omega (arith, n, v, c.requires.validators_room); stakes_room = omega (arith, n, v, c.requires.stakes_room) }
 
 pub returns-in-Words-draw_by : goal.returns-in-Words-draw_by
 returns-in-Words-draw_by c =

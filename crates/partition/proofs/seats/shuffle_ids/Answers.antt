@@ -17,7 +17,7 @@ use Rattle.partition.proofs.seats.shuffle_ids.Goals as goal
 -- what the shuffle says in an arm
 says : (c : After-shuffle_list) (r : Shuffled) → c.shuffle_list.result ≡ r → shuffled_says r c.shuffle_list.new.items (stream c.args.list.now c.shuffle_list.new.words) ≡ shuffle (ids_from 0 (length c.args.order.now)) (stream c.args.list.now c.listed-words.result)
 says c r e =
-    sym (ap (λ (x : Shuffled). shuffled_says x c.shuffle_list.new.items (stream c.args.list.now c.shuffle_list.new.words)) e) ∙ c.shuffle_list.ensures.words_after
+    sym (ap (λ (x : Shuffled). shuffled_says x c.shuffle_list.new.items (stream c.args.list.now c.shuffle_list.new.words)) e) ∙ c.shuffle_list.ensures.outcome
     ∙ ap (λ (xs : List ℕ). shuffle xs (stream c.args.list.now c.listed-words.result)) c.count_up.ensures
 
 pub overflow_sub-result : goal.overflow_sub-result
