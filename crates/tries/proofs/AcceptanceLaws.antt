@@ -5,7 +5,7 @@ use mathlib.Core.Bool.{true, false, true≢false}
 use native.Mathlib.Nat.{le_trans, le_of_eq, ne_of_gt, not-le_of_lt, mul-one, one-mul, mul-pos}
 use native.Mathlib.Omega.{arith}
 use lib.IntN.{ℤ, pos}
-use lib.Dec.{T, ltb, eqb, ltb→lt, lt→ltb, eqb→eq, not_T}
+use lib.Dec.{T, eqb, ltb→lt, lt→ltb, eqb→eq, not_T}
 use lib.Pow.{pow_pos}
 use lib.Ieee.{Float, nan, inf, fin, binary64, up, down, round, of_int, div, le, lt}
 use lib.Ieee.Bits.{is_true, is_false, cond_no}
