@@ -1,5 +1,5 @@
 -- Laws of the front of a buffer, and of going through its places one by one.
-use Rattle.std.proofs.Common.{◌≡◌, ℕ, ◌+◌, ◌-◌, ◌<◌, ◌≤◌, List, length, get_or, take, set, sym, refl, ap, ◌∙◌, add-one, arith, length-set, length-take-le, take_all, get_or-set_other, get_or-take, take-suc, get_or-set_same, take-suc-set, below_more}
+use Rattle.std.proofs.Common.{◌≡◌, ℕ, ◌+◌, ◌<◌, ◌≤◌, List, length, get_or, take, set, sym, refl, ap, ◌∙◌, add-one, arith, length-set, length-take-le, take_all, get_or-set_other, get_or-take, take-suc, get_or-set_same, take-suc-set, below_more}
 use lib.Seq.{take-length}
 use Rattle.io.specs.Counts.{IsPrefixLen}
 use Rattle.cases.specs.Lists.{Begins}
