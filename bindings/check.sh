@@ -6,10 +6,10 @@ set -euo pipefail
 root=$(cd "$(dirname "${BASH_SOURCE[0]}")/.." && pwd)
 cd "$root"
 
-# Proves the library and writes its archive; what rt says is shown where it fails.
+# Proves the library and writes its archive, for any x86-64 processor; what rt says is shown where it fails.
 build_archive() {
     local said
-    said=$(cd crates/valwydr && rt lib 2>&1) || { echo "$said"; return 1; }
+    said=$(cd crates/valwydr && rt lib --cpu=x86-64 2>&1) || { echo "$said"; return 1; }
     echo "${said##*$'\n'}"
 }
 

@@ -41,7 +41,10 @@ fn built() -> PathBuf {
     let root = parent(&parent(&package.unwrap_or_default()));
     let library = root.join("crates/valwydr");
     watch_sources(&root);
-    let run = Command::new("rt").arg("lib").current_dir(&library).output();
+    let run = Command::new("rt")
+        .args(["lib", "--cpu=x86-64"])
+        .current_dir(&library)
+        .output();
     match run {
         Ok(output) if output.status.success() => library.join("out"),
         Ok(output) => fail(&refused(&output)),
@@ -70,7 +73,7 @@ fn watch_sources(root: &Path) {
 /// What to say where `rt` ended with an error: its own words.
 fn refused(output: &Output) -> String {
     format!(
-        "'rt lib' ended with {}:\n{}{}",
+        "'rt lib --cpu=x86-64' ended with {}:\n{}{}",
         output.status,
         String::from_utf8_lossy(&output.stdout),
         String::from_utf8_lossy(&output.stderr)
