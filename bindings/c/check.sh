@@ -1,6 +1,6 @@
 #!/usr/bin/env bash
-# Compiles test.c against an archive of the library and runs it: `check.sh [ARCHIVE]`, by default the archive that `rt lib` writes in
-# crates/valwydr. The header is also read as C++.
+# Compiles test.c against an archive of the library and runs it: `check.sh [ARCHIVE]`, by default the archive that
+# `rt lib --cpu=x86-64` writes in crates/valwydr. The header is also read as C++.
 set -euo pipefail
 
 here=$(cd "$(dirname "${BASH_SOURCE[0]}")" && pwd)

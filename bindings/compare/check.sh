@@ -2,7 +2,7 @@
 # Compares the static library with the oracle and the model: `check.sh [SECONDS] [PART...]`. SECONDS is how long `compare` goes on,
 # 20 where nothing is said; the parts are `faults`, `compare` and `memory`, all three where none is named.
 # The archive is libvalwydr.a in the folder that VALWYDR_LIB_DIR names, or else in crates/valwydr/out,
-# where `rt lib` writes it; `rt ci` removes it there.
+# where `rt lib --cpu=x86-64` writes it; `rt ci` removes it there.
 # What this machine lacks is said in a line and passed over.
 set -euo pipefail
 

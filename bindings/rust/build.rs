@@ -1,5 +1,5 @@
-//! Links the proved library: the archive in the folder that `VALWYDR_LIB_DIR` names, or else the
-//! one that `rt lib` writes.
+//! Links the proved library: the archive in the folder that `VALWYDR_LIB_DIR` names, or else a
+//! copy of the one that `rt lib` writes.
 
 use std::ffi::OsString;
 use std::path::{Path, PathBuf};
@@ -35,7 +35,8 @@ fn given(folder: OsString) -> PathBuf {
     parent(&archive)
 }
 
-/// The static library's own folder `out`, after `rt` has proved the library and written it there.
+/// The folder of what this script makes, with a copy of the archive that `rt` writes once it has
+/// proved the library. `rt` removes its own when it proves all crates.
 fn built() -> PathBuf {
     let package = env::var_os("CARGO_MANIFEST_DIR").map(PathBuf::from);
     let root = parent(&parent(&package.unwrap_or_default()));
@@ -46,9 +47,20 @@ fn built() -> PathBuf {
         .current_dir(&library)
         .output();
     match run {
-        Ok(output) if output.status.success() => library.join("out"),
+        Ok(output) if output.status.success() => copied(&library.join("out").join(ARCHIVE)),
         Ok(output) => fail(&refused(&output)),
         Err(error) => fail(&missing(&error)),
+    }
+}
+
+/// The folder that cargo gives this script, with a copy of the archive.
+fn copied(archive: &Path) -> PathBuf {
+    let folder = env::var_os("OUT_DIR")
+        .map(PathBuf::from)
+        .unwrap_or_default();
+    match fs::copy(archive, folder.join(ARCHIVE)) {
+        Ok(_) => folder,
+        Err(error) => fail(&format!("'{}' can't be copied: {error}", archive.display())),
     }
 }
 

@@ -215,7 +215,7 @@ fn replay_cases(text: &[u8], agree: &mut [u64; 3], count: &mut [u64; 3]) -> bool
     true
 }
 
-// Room for the text, in a function of its own: the checker takes no literal of this length among other code.
+// Room for the text. With a literal of this length in `main` itself, the checker runs out of stack.
 fn room() -> [u8; 524288] {
     [0u8; 524288]
 }
