@@ -1,5 +1,5 @@
 -- Laws of drawing the zeros: they stand at the end of n places, and the one drawn and the last of them change places.
-use Prim.Native.Nat.{ℕ, zero, suc, ◌+◌, ◌-◌, ◌≤◌, ◌<◌}
+use Prim.Native.Nat.{ℕ, zero, suc, ◌+◌, ◌-◌, ◌≤◌, ◌<◌, min}
 use mathlib.Core.Path.{◌≡◌, refl, sym, ap, ◌∙◌}
 use mathlib.Core.Bool.{Bool, true, false}
 use mathlib.Core.List.{List, [], ◌∷◌, ◌++◌, append-nil}
@@ -87,7 +87,9 @@ module _ (n count : ℕ) (drawn₀ ws₀ drawn : List ℕ) (i : ℕ) (ws : List 
       rest = (take_zero (record { weights = []; zeros = zs }) v).rest.zeros
 
       rest_long : length rest ≡ n - (i + 1)
-      rest_long = omega (arith, length-take (length zs - 1) (set zs v (get_or zs (length zs - 1) 0)), length-set zs v (get_or zs (length zs - 1) 0), number)
+      rest_long =
+          let e : min (length zs - 1) (length zs) ≡ n - (i + 1) = omega (arith, number) in
+          length-take (length zs - 1) _ ∙ ap (min (length zs - 1)) (length-set zs v _) ∙ e
 
       at_next : FromEnd n rest next
       at_next p h =
