@@ -30,7 +30,7 @@ pub fn draw_values(
     sum: u64,
     values: &mut [u64],
 ) -> Values
-    requires last_bin_filled { (length values.old - 1) * capacity < sum }
+    requires last_bin_nonempty { (length values.old - 1) * capacity < sum }
     requires capacity_nonzero { 0 < capacity }
     ensures { values_says result values.new (stream list.now words.new) ≡ each below (bin_sums capacity (length values.old) sum) (stream list.now words.old) }
 {

@@ -50,7 +50,7 @@ fn shuffle_ids(list: &[u64], cursor: usize, order: &mut [u64]) -> Read
 
 // A value for each bin, by the words of a list from a cursor on.
 fn draw_by(list: &[u64], cursor: usize, capacity: u64, sum: u64, values: &mut [u64]) -> Read
-    requires last_bin_filled { (length values.old - 1) * capacity < sum }
+    requires last_bin_nonempty { (length values.old - 1) * capacity < sum }
     requires capacity_nonzero { 0 < capacity }
     ensures value { result ≡ read_answer (drop cursor list.now) (each below (bin_sums capacity (length values.old) sum) (drop cursor list.now)) }
     ensures holds { Holds (each below (bin_sums capacity (length values.old) sum) (drop cursor list.now)) values.new }
