@@ -1,209 +1,138 @@
-// A committee by a call that is not turned down by its sizes and sum.
-ghost use Rattle.std.specs.Prelude.{◌≤◌, ◌≡◌, length, drop};
-ghost use Rattle.words.specs.Outcome.{buffer_after};
-ghost use Rattle.fait_accompli.specs.Seats.{size_of, seats_of};
-ghost use Rattle.fait_accompli.specs.Answers.{committee_answer, piece_bins_of, piece_validators_of, piece_stakes_of};
-ghost use Rattle.fait_accompli.specs.Fallbacks.{Admitted, committee_over};
+ghost use Rattle.std.specs.Prelude.{◌≡◌, ◌+◌, ◌≤◌, ◌<◌, length, sum};
+ghost use Rattle.refusals.specs.Refusal.{first_of};
+ghost use Rattle.fait_accompli.specs.Fallback.{size_of, Roomy, piece_checks};
+ghost use Rattle.fait_accompli.specs.Committee.{committee, told, sample_quorum};
+ghost use Rattle.partition.specs.Partition.{held_of};
+ghost use Rattle.fill.specs.Columns.{HaveRoom, SameLoans};
 
-use crate::answers::{Committee, CommitteeAnswer};
-use crate::further;
-use crate::sampler::Fallback;
-use partition::PartitionAnswer;
+use crate::bins::{Summed, draw_others};
+use draws::Weights;
+use fixed_seats::{Division, seat_fixed};
+use partition::check_columns;
+use fill::Columns;
+use refusals::{Refusal, check_list_length, check_room, check_size_of_some};
+use words::WordSource;
 
-// A committee of as many seats as it has places: the fixed seats, then those of the fallback. It is stored once all seats are drawn.
-// The numbers of fixed seats stand in the space for the order until the ids are written.
-fn fill_committee(
-    fallback: Fallback,
-    stakes: &[u64],
-    sum: u64,
-    first: &[u64],
-    first_cursor: usize,
-    second: &[u64],
-    second_cursor: usize,
-    kept: &mut [u64],
-    order: &mut [u64],
-    committee: &mut [u64],
-    seats: &mut [u64],
-    piece_bins: &mut [u64],
-    piece_validators: &mut [u64],
-    piece_stakes: &mut [u64],
-) -> CommitteeAnswer
-    requires admitted { Admitted fallback stakes.now sum (length seats.old) (length piece_bins.old) (length piece_validators.old) (length piece_stakes.old) }
-    requires kept_len { length kept.old ≡ length stakes.now }
-    requires order_len { length order.old ≡ length stakes.now }
-    requires committee_len { length committee.old ≡ size_of fallback }
-    ensures value { result ≡ committee_answer (drop first_cursor first.now) (drop second_cursor second.now) (committee_over fallback stakes.now (drop first_cursor first.now) (drop second_cursor second.now)) }
-    ensures seats_after { seats.new ≡ buffer_after (committee_over fallback stakes.now (drop first_cursor first.now) (drop second_cursor second.now)) seats_of seats.old }
-    ensures piece_bins_after { piece_bins.new ≡ buffer_after (committee_over fallback stakes.now (drop first_cursor first.now) (drop second_cursor second.now)) piece_bins_of piece_bins.old }
-    ensures piece_validators_after { piece_validators.new ≡ buffer_after (committee_over fallback stakes.now (drop first_cursor first.now) (drop second_cursor second.now)) piece_validators_of piece_validators.old }
-    ensures piece_stakes_after { piece_stakes.new ≡ buffer_after (committee_over fallback stakes.now (drop first_cursor first.now) (drop second_cursor second.now)) piece_stakes_of piece_stakes.old }
-{
-    let k = committee.len();
-    let held = fixed_seats::keep(stakes, sum, k as u64, order, kept);
-    let fixed = held.seats as usize;
-    fixed_seats::repeat_ids(order, committee);
-    match further::draw_further(
-        fallback,
-        kept,
-        held.stake,
-        fixed,
-        first,
-        first_cursor,
-        second,
-        second_cursor,
-        order,
-        committee,
-        piece_bins,
-        piece_validators,
-        piece_stakes,
-    ) {
-        PartitionAnswer::Accepted(drawn) => {
-            buffers::store(committee, seats);
-            CommitteeAnswer::Accepted(Committee {
-                further: k - fixed,
-                pieces: drawn.pieces,
-                first_words_read: drawn.first_words_read,
-                second_words_read: drawn.second_words_read,
-            })
+/// A committee, whose seats and pieces stand in what was lent: how many seats are not fixed, how many pieces there are, and how many words
+/// of each source were read.
+#[derive(Clone, Copy, Debug, PartialEq, Eq)]
+pub struct Committee {
+    pub further: usize,
+    pub pieces: usize,
+    pub first_words_read: usize,
+    pub second_words_read: usize,
+}
+
+/// Where the seats that are not fixed come from, for a committee of this size.
+#[derive(Clone, Copy, Debug, PartialEq, Eq)]
+pub enum Fallback {
+    Bins(usize),
+    Draws(usize),
+}
+
+impl Fallback {
+    /// The size of the committee.
+    pub fn size(self) -> usize
+        ensures { result ≡ size_of self }
+    {
+        match self {
+            Fallback::Bins(k) => k,
+            Fallback::Draws(k) => k,
         }
-        PartitionAnswer::Refused(n) => CommitteeAnswer::Refused(n),
+    }
+
+    // Whether the columns have places for the pieces.
+    fn check_pieces(self, columns: &Columns, n: usize) -> Result<(), Refusal>
+        requires short { n ≤ 4096 }
+        requires few { size_of self ≤ 1024 }
+        ensures { result ≡ first_of (piece_checks self n (held_of columns.now)) }
+    {
+        match self {
+            Fallback::Bins(k) => check_columns(columns, n, k),
+            Fallback::Draws(_) => Ok(()),
+        }
     }
 }
 
-// A committee of k with scratch space for kept stake, order and seats.
-fn committee_in_scratch(
-    fallback: Fallback,
-    k: usize,
-    stakes: &[u64],
-    sum: u64,
-    first: &[u64],
-    first_cursor: usize,
-    second: &[u64],
-    second_cursor: usize,
-    kept: &mut [u64],
-    order: &mut [u64],
-    committee: &mut [u64],
-    seats: &mut [u64],
-    piece_bins: &mut [u64],
-    piece_validators: &mut [u64],
-    piece_stakes: &mut [u64],
-) -> CommitteeAnswer
-    requires admitted { Admitted fallback stakes.now sum (length seats.old) (length piece_bins.old) (length piece_validators.old) (length piece_stakes.old) }
-    requires k_value { k ≡ size_of fallback }
-    requires kept_room { length stakes.now ≤ length kept.old }
-    requires order_room { length stakes.now ≤ length order.old }
-    requires committee_room { k ≤ length committee.old }
-    ensures value { result ≡ committee_answer (drop first_cursor first.now) (drop second_cursor second.now) (committee_over fallback stakes.now (drop first_cursor first.now) (drop second_cursor second.now)) }
-    ensures seats_after { seats.new ≡ buffer_after (committee_over fallback stakes.now (drop first_cursor first.now) (drop second_cursor second.now)) seats_of seats.old }
-    ensures piece_bins_after { piece_bins.new ≡ buffer_after (committee_over fallback stakes.now (drop first_cursor first.now) (drop second_cursor second.now)) piece_bins_of piece_bins.old }
-    ensures piece_validators_after { piece_validators.new ≡ buffer_after (committee_over fallback stakes.now (drop first_cursor first.now) (drop second_cursor second.now)) piece_validators_of piece_validators.old }
-    ensures piece_stakes_after { piece_stakes.new ≡ buffer_after (committee_over fallback stakes.now (drop first_cursor first.now) (drop second_cursor second.now)) piece_stakes_of piece_stakes.old }
-{
-    let n = stakes.len();
-    fill_committee(
-        fallback,
-        stakes,
-        sum,
-        first,
-        first_cursor,
-        second,
-        second_cursor,
-        &mut kept[..n],
-        &mut order[..n],
-        &mut committee[..k],
-        seats,
-        piece_bins,
-        piece_validators,
-        piece_stakes,
-    )
+/// A sampler that gives each validator the whole number of seats in its share, and the others by its fallback.
+#[derive(Clone, Copy, Debug, PartialEq, Eq)]
+pub struct FaitAccompli1Sampler {
+    pub fallback: Fallback,
 }
 
-// A committee of k, in scratch space that is chosen by the sizes, since zeroing what is not needed costs time.
-pub fn draw_quorum(
-    fallback: Fallback,
-    k: usize,
+impl FaitAccompli1Sampler {
+    /// A committee, written to the front of `seats`; over bins with its pieces. What is lent keeps what it held where the call is turned
+    /// down.
+    pub fn sample_quorum<A: WordSource, B: WordSource>(
+        &self,
+        stakes: &[u64],
+        first: &mut A,
+        second: &mut B,
+        seats: &mut [u64],
+        columns: &mut Columns,
+    ) -> Result<Committee, Refusal>
+        ensures sampled { (result, (seats.new, held_of columns.new), A.words first.new, B.words second.new)
+            ≡ sample_quorum self.now.fallback stakes.now (seats.old, held_of columns.old)
+            (A.words first.old) (B.words second.old) }
+        ensures same { SameLoans columns.old columns.new }
+    {
+        let (n, fallback) = (stakes.len(), self.fallback);
+        let k = fallback.size();
+        check_list_length(n)?;
+        check_size_of_some(k)?;
+        check_room(seats.len(), k)?;
+        fallback.check_pieces(columns, n)?;
+        if n <= 64 && k <= 64 {
+            in_scratch::<A, B, 64, 64>(stakes, fallback, first, second, seats, columns)
+        } else if n <= 1024 {
+            in_scratch::<A, B, 1024, 1024>(stakes, fallback, first, second, seats, columns)
+        } else {
+            in_scratch::<A, B, 4096, 1024>(stakes, fallback, first, second, seats, columns)
+        }
+    }
+}
+
+// A committee in scratch space for up to N stakes and K seats, since zeroing what is not needed costs time.
+fn in_scratch<A: WordSource, B: WordSource, const N: usize, const K: usize>(
     stakes: &[u64],
-    sum: u64,
-    first: &[u64],
-    first_cursor: usize,
-    second: &[u64],
-    second_cursor: usize,
+    fallback: Fallback,
+    first: &mut A,
+    second: &mut B,
     seats: &mut [u64],
-    piece_bins: &mut [u64],
-    piece_validators: &mut [u64],
-    piece_stakes: &mut [u64],
-) -> CommitteeAnswer
-    requires admitted { Admitted fallback stakes.now sum (length seats.old) (length piece_bins.old) (length piece_validators.old) (length piece_stakes.old) }
-    requires k_value { k ≡ size_of fallback }
-    requires stakes_len_bound { length stakes.now ≤ 4096 }
-    ensures value { result ≡ committee_answer (drop first_cursor first.now) (drop second_cursor second.now) (committee_over fallback stakes.now (drop first_cursor first.now) (drop second_cursor second.now)) }
-    ensures seats_after { seats.new ≡ buffer_after (committee_over fallback stakes.now (drop first_cursor first.now) (drop second_cursor second.now)) seats_of seats.old }
-    ensures piece_bins_after { piece_bins.new ≡ buffer_after (committee_over fallback stakes.now (drop first_cursor first.now) (drop second_cursor second.now)) piece_bins_of piece_bins.old }
-    ensures piece_validators_after { piece_validators.new ≡ buffer_after (committee_over fallback stakes.now (drop first_cursor first.now) (drop second_cursor second.now)) piece_validators_of piece_validators.old }
-    ensures piece_stakes_after { piece_stakes.new ≡ buffer_after (committee_over fallback stakes.now (drop first_cursor first.now) (drop second_cursor second.now)) piece_stakes_of piece_stakes.old }
+    columns: &mut Columns,
+) -> Result<Committee, Refusal>
+    requires small { (N ≤ 4096) × (K ≤ 1024) }
+    requires stakes { length stakes.now ≤ N }
+    requires drawn { size_of fallback ≤ K }
+    requires some { 0 < size_of fallback }
+    requires seats { size_of fallback ≤ length seats.old }
+    requires room { Roomy fallback columns.old (length stakes.now) }
+    ensures told { (result, (seats.new, held_of columns.new), A.words first.new, B.words second.new)
+        ≡ told (size_of fallback) stakes.now (seats.old, held_of columns.old) (A.words first.old) (B.words second.old)
+        (committee fallback stakes.now (A.words first.old) (B.words second.old)) }
+    ensures same { SameLoans columns.old columns.new }
 {
-    let n = stakes.len();
-    if n <= 64 && k <= 64 {
-        let mut kept = [0u64; 64];
-        let mut order = [0u64; 64];
-        let mut committee = [0u64; 64];
-        return committee_in_scratch(
-            fallback,
-            k,
-            stakes,
-            sum,
-            first,
-            first_cursor,
-            second,
-            second_cursor,
-            &mut kept,
-            &mut order,
-            &mut committee,
-            seats,
-            piece_bins,
-            piece_validators,
-            piece_stakes,
-        );
-    }
-    let mut committee = [0u64; 1024];
-    if n <= 1024 {
-        let mut kept = [0u64; 1024];
-        let mut order = [0u64; 1024];
-        return committee_in_scratch(
-            fallback,
-            k,
-            stakes,
-            sum,
-            first,
-            first_cursor,
-            second,
-            second_cursor,
-            &mut kept,
-            &mut order,
-            &mut committee,
-            seats,
-            piece_bins,
-            piece_validators,
-            piece_stakes,
-        );
-    }
-    let mut kept = [0u64; 4096];
-    let mut order = [0u64; 4096];
-    committee_in_scratch(
-        fallback,
-        k,
-        stakes,
-        sum,
-        first,
-        first_cursor,
-        second,
-        second_cursor,
-        &mut kept,
-        &mut order,
-        &mut committee,
-        seats,
-        piece_bins,
-        piece_validators,
-        piece_stakes,
-    )
+    let k = fallback.size();
+    let mut sums = [0; N];
+    let mut kept = [0; N];
+    let mut drawn = [0; K];
+    let sums = &mut sums[..stakes.len()];
+    let kept = &mut kept[..stakes.len()];
+    let drawn = &mut drawn[..k];
+    let total = Weights::new(stakes, sums)?.total();
+    let (first_left, second_left) = (first.words_left(), second.words_left());
+    let fixed = seat_fixed(stakes, Division::new(k as u64, total), drawn, kept);
+    let summed = Summed {
+        weights: kept,
+        sum: fixed.stake,
+    };
+    let others = &mut drawn[fixed.seats..];
+    let pieces = draw_others(fallback, summed, first, second, sums, others, columns)?;
+    seats[..k].copy_from_slice(drawn);
+    Ok(Committee {
+        further: k - fixed.seats,
+        pieces,
+        first_words_read: first_left.saturating_sub(first.words_left()),
+        second_words_read: second_left.saturating_sub(second.words_left()),
+    })
 }

@@ -1,58 +1,42 @@
-// The fill rule.
-ghost use Rattle.std.specs.Prelude.{◌+◌, ◌*◌, ◌≤◌, ◌<◌, ◌≡◌, cond, ◌++◌, ltb, length, set, drop};
-ghost use Rattle.laws.specs.Sums.{total};
-ghost use Rattle.laws.specs.Orders.{AllBelow};
-ghost use Rattle.fill.specs.Fill.{fill, pieces, bins_of, validators_of, stakes_of};
-ghost use Rattle.fill.specs.Values.{in_order, share_stakes};
+ghost use Rattle.std.specs.Prelude.{◌≡◌, ◌+◌, ◌*◌, ◌<◌, ◌≤◌, length, All, if◌then◌else◌, ◌==◌};
+ghost use Rattle.fill.specs.Fill.{in_order, fill, pieces, total};
+ghost use Rattle.fill.specs.Columns.{HaveRoom, SameLoans, Begin, PutAt};
+
+use crate::columns::Columns;
+use crate::piece::Piece;
 
 // Stores a piece at a place, and gives the place after it. A zero stake leaves no piece.
-fn put_piece(
-    bin: usize,
-    validator: u64,
-    stake: u64,
-    at: usize,
-    piece_bins: &mut [u64],
-    piece_validators: &mut [u64],
-    piece_stakes: &mut [u64],
-) -> usize
-    requires bins_room { at + cond (ltb 0 stake) 1 0 ≤ length piece_bins.old }
-    requires validators_room { at + cond (ltb 0 stake) 1 0 ≤ length piece_validators.old }
-    requires stakes_room { at + cond (ltb 0 stake) 1 0 ≤ length piece_stakes.old }
-    ensures value { result ≡ at + cond (ltb 0 stake) 1 0 }
-    ensures piece_bins_after { piece_bins.new ≡ cond (ltb 0 stake) (set piece_bins.old at bin) piece_bins.old }
-    ensures piece_validators_after { piece_validators.new ≡ cond (ltb 0 stake) (set piece_validators.old at validator) piece_validators.old }
-    ensures piece_stakes_after { piece_stakes.new ≡ cond (ltb 0 stake) (set piece_stakes.old at stake) piece_stakes.old }
+fn put_some(columns: &mut Columns, at: usize, piece: Piece) -> usize
+    requires { HaveRoom columns.old (at + 1) }
+    ensures place { result ≡ (if piece.stake == 0 then at else (at + 1)) }
+    ensures none { piece.stake ≡ 0 → columns.new ≡ columns.old }
+    ensures put { 0 < piece.stake → PutAt columns.old columns.new at piece }
+    ensures same { SameLoans columns.old columns.new }
 {
-    if stake == 0 {
+    if piece.stake == 0 {
         return at;
     }
-    piece_bins[at] = bin as u64;
-    piece_validators[at] = validator;
-    piece_stakes[at] = stake;
+    columns.put(at, piece);
     at + 1
 }
 
-// Fills bins to their capacity with weights in an order of their validators, writes the pieces to the front of the buffers, and gives
-// their number.
+/// Fills bins to their capacity with weights in an order of their validators, writes the pieces to the front of the columns, and gives
+/// their number.
 pub fn fill(
     weights: &[u64],
     order: &[u64],
     capacity: u64,
     bins: usize,
-    piece_bins: &mut [u64],
-    piece_validators: &mut [u64],
-    piece_stakes: &mut [u64],
+    columns: &mut Columns,
 ) -> usize
-    requires bins_nonzero { 0 < bins }
-    requires all_below { AllBelow (length weights.now) order.now }
-    requires total_fits { total (share_stakes (in_order weights.now order.now)) ≤ bins * capacity }
-    requires bins_room { length order.now + bins ≤ length piece_bins.old }
-    requires validators_room { length order.now + bins ≤ length piece_validators.old }
-    requires stakes_room { length order.now + bins ≤ length piece_stakes.old }
-    ensures value { result ≡ length (pieces 0 (fill capacity bins (in_order weights.now order.now))) }
-    ensures piece_bins_after { piece_bins.new ≡ bins_of (pieces 0 (fill capacity bins (in_order weights.now order.now))) ++ drop result piece_bins.old }
-    ensures piece_validators_after { piece_validators.new ≡ validators_of (pieces 0 (fill capacity bins (in_order weights.now order.now))) ++ drop result piece_validators.old }
-    ensures piece_stakes_after { piece_stakes.new ≡ stakes_of (pieces 0 (fill capacity bins (in_order weights.now order.now))) ++ drop result piece_stakes.old }
+    requires some { 0 < bins }
+    requires few { bins ≤ 1024 }
+    requires ids { All (λ i. i < length weights.now) order.now }
+    requires room { total (in_order weights.now order.now) ≤ bins * capacity }
+    requires places { HaveRoom columns.old (length order.now + bins) }
+    ensures count { result ≡ length (pieces 0 (fill capacity bins (in_order weights.now order.now))) }
+    ensures begin { Begin columns.old columns.new (pieces 0 (fill capacity bins (in_order weights.now order.now))) }
+    ensures same { SameLoans columns.old columns.new }
 {
     let mut count = 0;
     let mut bin = 0;
@@ -64,28 +48,22 @@ pub fn fill(
         let weight = weights[validator as usize];
         let stake = weight - used;
         if stake <= room {
-            count = put_piece(
+            let piece = Piece {
                 bin,
                 validator,
                 stake,
-                count,
-                piece_bins,
-                piece_validators,
-                piece_stakes,
-            );
+            };
+            count = put_some(columns, count, piece);
             room -= stake;
             used = 0;
             at += 1;
         } else {
-            count = put_piece(
+            let piece = Piece {
                 bin,
                 validator,
-                room,
-                count,
-                piece_bins,
-                piece_validators,
-                piece_stakes,
-            );
+                stake: room,
+            };
+            count = put_some(columns, count, piece);
             used = weight - (stake - room);
             room = capacity;
             bin += 1;

@@ -1,32 +1,51 @@
--- What a call gives: the lowest refusal from its input, else the view.
-use Rattle.std.specs.Prelude.{ℕ, min, List, [], ◌∷◌, length, drop}
-use Rattle.refusals.specs.Refusals.{Check, lowest, list_length, fanout_limit, not_below, short_buffer}
-use Rattle.words.specs.Outcome.{Outcome, unless, giving}
-use Rattle.nodes.specs.declared.node.Node.{Node}
-use Rattle.tree.specs.Sizes.{sizes}
-use Rattle.shuffle_steps.specs.Order.{order}
+-- What a call gives: the first refusal from its input, else the view.
+use Rattle.std.specs.Prelude.{ℕ, ◌-◌, min, Option, Some, Result, Ok, Err, List, [], ◌∷◌, ◌++◌, length, drop, replicate}
+use Rattle.refusals.specs.declared.refusal.Refusal.{Refusal}
+use Rattle.refusals.specs.Refusal.{Check, first_of, list_length, fanout_limit, not_below, short_buffer}
+use Rattle.words.specs.Draw.{and_then}
+use Rattle.draws.specs.Call.{after_checks, or_no_word}
+use Rattle.tree.specs.declared.node.Node.{Node}
+use Rattle.tree.specs.Sizes.{tree_size}
+use Rattle.tree.specs.Tree.{zero_node}
+use Rattle.weighted_shuffle.specs.Order.{order}
+use Rattle.turbine.specs.declared.neighborhood.TurbineTree.{TurbineTree}
+use Rattle.turbine.specs.declared.view.View.{View}
 use Rattle.turbine.specs.View.{Neighborhood, neighborhood}
 
--- how many places are lent for the order, how many nodes, and how many places for children
-pub record Lent : Type 0 where
-  pub order : ℕ
-  pub nodes : ℕ
-  pub children : ℕ
+-- the root, the parent, and how many children there are
+abbrev pub tree_of : Neighborhood → TurbineTree
+tree_of v = record { root = v.root; parent = v.parent; children = length v.children }
 
--- 7: "n for an order and the tree size in nodes; the smaller of fanout and n children"
-abbrev pub buffer_checks : ℕ → ℕ → Lent → List Check
-buffer_checks n most lent = short_buffer lent.order n ∷ short_buffer lent.nodes (sizes n).tree_size ∷ short_buffer lent.children most ∷ []
+-- the front of a lent buffer is written, and past it stays what it held
+abbrev pub written : List ℕ → List ℕ → List ℕ
+written values held = values ++ drop (length values) held
 
--- `TurbineTree::new`: 1, 5, 6 and 7
-abbrev pub view_checks : ℕ → ℕ → ℕ → Lent → List Check
-view_checks n fanout own lent = list_length n ∷ fanout_limit fanout ∷ not_below own n ∷ buffer_checks n (min fanout n) lent
+-- a view, and what the buffer for children then holds
+abbrev pub seen : Neighborhood → List ℕ → TurbineTree × List ℕ
+seen v kept = (tree_of v, written v.children kept)
 
--- then the order, and 12, and what the validator with that id sees of it
-abbrev pub view : List ℕ → ℕ → ℕ → Lent → List ℕ → Outcome Neighborhood
-view stakes fanout own lent ws =
-    unless (lowest (view_checks (length stakes) fanout own lent)) (giving (neighborhood fanout own) (order stakes ws))
+-- the buffers of a call
+abbrev pub Lent : Type 0
+Lent = List ℕ × List Node × List ℕ
 
--- a call reads the words from the cursor on, and is lent these
-abbrev pub view_call : List ℕ → ℕ → ℕ → List ℕ → ℕ → List ℕ → List Node → List ℕ → Outcome Neighborhood
-view_call stakes fanout own list cursor order nodes children =
-    view stakes fanout own (record { order = length order; nodes = length nodes; children = length children }) (drop cursor list)
+-- the checks, in order
+abbrev pub checks : ℕ → ℕ → ℕ → Lent → List Check
+checks n fanout own lent =
+    list_length n ∷ fanout_limit fanout ∷ not_below own n ∷ short_buffer (length lent.0) n ∷ short_buffer (length lent.1) (tree_size n) ∷ short_buffer (length lent.2) (min fanout n) ∷ []
+
+-- the order, and what the validator with that id sees of it
+abbrev pub viewed : ℕ → ℕ → Option (List ℕ) × List ℕ → Option Neighborhood × List ℕ
+viewed fanout own draw = and_then draw (λ ps left. (Some (neighborhood fanout own ps), left))
+
+abbrev pub view : List ℕ → ℕ → ℕ → Lent → List ℕ → Result Neighborhood Refusal × List ℕ
+view stakes fanout own lent ws = after_checks (first_of (checks (length stakes) fanout own lent)) ws (or_no_word (viewed fanout own (order stakes ws)))
+
+-- the answer of a call, and what the lent buffers hold after it
+abbrev pub told : ℕ → Lent → List ℕ → Result Neighborhood Refusal × List ℕ → Result View Refusal × List ℕ × List Node × List ℕ
+told n (held, nodes, kept) ws (Err refusal, left) = (Err refusal, held, nodes, kept)
+told n (held, nodes, kept) ws (Ok v, left) =
+    (Ok (record { tree = tree_of v; words_read = length ws - length left }), written v.order held, replicate (tree_size n) zero_node ++ drop (tree_size n) nodes, written v.children kept)
+
+-- a call of `View::new`
+abbrev pub turbine_tree : List ℕ → ℕ → ℕ → Lent → List ℕ → Result View Refusal × List ℕ × List Node × List ℕ
+turbine_tree stakes fanout own lent ws = told (length stakes) lent ws (view stakes fanout own lent ws)

@@ -1,4 +1,0 @@
-pub mod BinLaws
-pub mod FurtherLaws
-pub mod CommitteeLaws
-pub mod CallLaws

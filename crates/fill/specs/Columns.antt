@@ -1,0 +1,33 @@
+-- Three lent columns of pieces.
+use Rattle.std.specs.Prelude.{ℕ, ◌≡◌, ◌≤◌, ◌++◌, List, map, length, drop, set}
+use Rattle.fill.specs.declared.columns.Columns.{Columns}
+use Rattle.fill.specs.declared.piece.Piece.{Piece}
+use Rattle.fill.specs.Piece.{bins_of, validators_of, stakes_of}
+
+-- each column has so many places
+pub record HaveRoom (columns : Columns) (places : ℕ) : Type 0 where
+  pub bins : places ≤ length columns.bins.now
+  pub validators : places ≤ length columns.validators.now
+  pub stakes : places ≤ length columns.stakes.now
+
+-- the columns are the same three loans
+pub record SameLoans (old new : Columns) : Type 0 where
+  pub bins : new.bins.ghost_name ≡ old.bins.ghost_name
+  pub validators : new.validators.ghost_name ≡ old.validators.ghost_name
+  pub stakes : new.stakes.ghost_name ≡ old.stakes.ghost_name
+
+-- the piece stands at a place, and the others are as they were
+pub record PutAt (old new : Columns) (at : ℕ) (piece : Piece) : Type 0 where
+  pub bins : new.bins.now ≡ set old.bins.now at piece.bin
+  pub validators : new.validators.now ≡ set old.validators.now at piece.validator
+  pub stakes : new.stakes.now ≡ set old.stakes.now at piece.stake
+
+-- the pieces stand at the front, and past them is what was there
+pub record Begin (old new : Columns) (pieces : List Piece) : Type 0 where
+  pub bins : new.bins.now ≡ bins_of pieces ++ drop (length pieces) old.bins.now
+  pub validators : new.validators.now ≡ validators_of pieces ++ drop (length pieces) old.validators.now
+  pub stakes : new.stakes.now ≡ stakes_of pieces ++ drop (length pieces) old.stakes.now
+
+-- what a lent column holds after the pieces are written to its front
+abbrev pub column_after : (Piece → ℕ) → List Piece → List ℕ → List ℕ
+column_after part pieces held = map part pieces ++ drop (length pieces) held

@@ -1,0 +1,32 @@
+use crate::piece::Piece;
+
+/// Three lent columns: the bins, the validators and the stakes of pieces.
+#[derive(Debug, Drop)]
+pub struct Columns<'a> {
+    pub bins: &'a mut [u64],
+    pub validators: &'a mut [u64],
+    pub stakes: &'a mut [u64],
+}
+
+impl Columns<'_> {
+    ghost use Rattle.std.specs.Prelude.{◌+◌, ◌↔◌, IsTrue};
+    ghost use Rattle.fill.specs.Columns.{HaveRoom, SameLoans, PutAt};
+
+    /// Whether each column has so many places.
+    pub fn have_room(&self, places: usize) -> bool
+        ensures { IsTrue result ↔ HaveRoom self.now places }
+    {
+        places <= self.bins.len() && places <= self.validators.len() && places <= self.stakes.len()
+    }
+
+    /// Stores a piece at a place.
+    pub fn put(&mut self, at: usize, piece: Piece)
+        requires { HaveRoom self.old (at + 1) }
+        ensures put { PutAt self.old self.new at piece }
+        ensures same { SameLoans self.old self.new }
+    {
+        self.bins[at] = piece.bin as u64;
+        self.validators[at] = piece.validator;
+        self.stakes[at] = piece.stake;
+    }
+}

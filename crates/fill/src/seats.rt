@@ -1,0 +1,52 @@
+ghost use Rattle.std.specs.Prelude.{◌≡◌, ◌+◌, ◌*◌, ◌<◌, ◌≤◌, length, All};
+ghost use Rattle.fill.specs.Fill.{in_order, fill, pieces, total};
+ghost use Rattle.fill.specs.Values.{rows_of, chosen};
+ghost use Rattle.fill.specs.Columns.{HaveRoom, SameLoans, Begin};
+
+use crate::rule::fill;
+use crate::columns::Columns;
+
+// Puts in the place of each bin's value the validator that it chooses. A value counts from the first piece of its bin on.
+#[tactic(auto, using(crate::proofs::ChooseLemmas::chosen_step, crate::proofs::ChooseLemmas::chosen_end))]
+fn choose(columns: &Columns, pieces: usize, seats: &mut [u64])
+    requires { HaveRoom columns.now pieces }
+    ensures { seats.new ≡ chosen 0 (rows_of pieces columns.now) seats.old }
+{
+    let mut next = 0;
+    for at in 0..pieces {
+        if columns.bins[at] == next as u64 && next < seats.len() {
+            let value = seats[next];
+            let stake = columns.stakes[at];
+            if value < stake {
+                seats[next] = columns.validators[at];
+                next += 1;
+            } else {
+                seats[next] = value - stake;
+            }
+        }
+    }
+}
+
+/// Fills as many bins as there are values, one in the place of each seat, and puts in its place the validator that it chooses. Gives the
+/// number of pieces.
+pub fn fill_and_choose(
+    weights: &[u64],
+    order: &[u64],
+    capacity: u64,
+    columns: &mut Columns,
+    seats: &mut [u64],
+) -> usize
+    requires some { 0 < length seats.old }
+    requires few { length seats.old ≤ 1024 }
+    requires ids { All (λ i. i < length weights.now) order.now }
+    requires room { total (in_order weights.now order.now) ≤ length seats.old * capacity }
+    requires places { HaveRoom columns.old (length order.now + length seats.old) }
+    ensures count { result ≡ length (pieces 0 (fill capacity (length seats.old) (in_order weights.now order.now))) }
+    ensures begin { Begin columns.old columns.new (pieces 0 (fill capacity (length seats.old) (in_order weights.now order.now))) }
+    ensures same { SameLoans columns.old columns.new }
+    ensures seats { seats.new ≡ chosen 0 (pieces 0 (fill capacity (length seats.old) (in_order weights.now order.now))) seats.old }
+{
+    let pieces = fill(weights, order, capacity, seats.len(), columns);
+    choose(columns, pieces, seats);
+    pieces
+}

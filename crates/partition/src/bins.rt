@@ -1,0 +1,45 @@
+ghost use Rattle.std.specs.Prelude.{◌≡◌, ◌+◌, ◌≤◌, length, sum};
+ghost use Rattle.std.specs.Option.{option_map};
+ghost use Rattle.partition.specs.Partition.{ids_from, held_of, over_bins, placed, Fillable};
+ghost use Rattle.fill.specs.Columns.{HaveRoom, SameLoans};
+
+use crate::checks::Bins;
+use draws::shuffle_list;
+use fill::{draw_values, fill_and_choose};
+use fill::Columns;
+use words::WordSource;
+
+// The ids from 0 on.
+fn count_up(order: &mut [u64])
+    ensures { order.new ≡ ids_from 0 (length order.old) }
+{
+    for i in 0..order.len() {
+        order[i] = i as u64;
+    }
+}
+
+/// One seat from each of the bins: the weights are shuffled by the first words, the seats are drawn by the second, and then the pieces
+/// are written. Gives their number; `None` where the words run out, which leaves the columns as they were.
+pub fn draw_bins<A: WordSource, B: WordSource>(
+    weights: &[u64],
+    bins: Bins,
+    first: &mut A,
+    second: &mut B,
+    order: &mut [u64],
+    seats: &mut [u64],
+    columns: &mut Columns,
+) -> Option<usize>
+    requires fillable { Fillable (sum weights.now) bins }
+    requires order { length order.old ≡ length weights.now }
+    requires seats { length seats.old ≡ bins.number }
+    requires room { HaveRoom columns.old (length weights.now + bins.number) }
+    ensures drawn { (option_map (λ n. (n, seats.new)) result, held_of columns.new, A.words first.new, B.words second.new)
+        ≡ placed (held_of columns.old)
+        (over_bins weights.now bins.capacity bins.number (A.words first.old) (B.words second.old)) }
+    ensures same { SameLoans columns.old columns.new }
+{
+    count_up(order);
+    shuffle_list(first, order)?;
+    draw_values(second, bins.capacity, bins.sum, seats)?;
+    Some(fill_and_choose(weights, order, bins.capacity, columns, seats))
+}

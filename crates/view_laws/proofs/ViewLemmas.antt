@@ -1,0 +1,188 @@
+-- All views of one list.
+use Rattle.std.proofs.Common.{◌≡◌, ℕ, zero, suc, ◌-◌, ◌/◌, ◌<◌, Bool, true, false, if◌then◌else◌, Option, Some, None, Result, Ok, Err, List, [], ◌∷◌, length, get_or, take, drop, refl, sym, ap, subst, ◌∙◌, arith, take_at, leb-false}
+use Rattle.std.specs.Prelude.{◌==◌, nat_lt, min}
+use Rattle.std.proofs.lemmas.Bool.{eqb-false, or_parts}
+use Rattle.refusals.specs.declared.refusal.Refusal.{Refusal}
+use Rattle.refusals.specs.Refusal.{Check, first_of, list_length, fanout_limit, not_below, short_buffer}
+use Rattle.draws.specs.Call.{after_checks, or_no_word}
+use Rattle.tree.specs.Sizes.{tree_size}
+use Rattle.weighted_shuffle.specs.Order.{order}
+use Rattle.shuffle_laws.specs.Orders.{count, IsOrder}
+use Rattle.shuffle_laws.proofs.WholeLemmas.{orders_whole}
+use Rattle.turbine.specs.declared.neighborhood.TurbineTree.{TurbineTree}
+use Rattle.turbine.specs.declared.view.View.{View}
+use Rattle.turbine.specs.View.{position_of, root_of, parent_at, children_at, Neighborhood, neighborhood}
+use Rattle.turbine.specs.Calls.{Lent, checks, viewed, view, told, tree_of}
+use Rattle.view_laws.specs.Views.{positions, root, Viewed, parent_of, children_of, Names, ChildOfOne, ViewsConsistent}
+use Rattle.view_laws.proofs.TreeLemmas.{id_of, place_lt, id_at, id_lt, chosen, lists, listed, names_none, names_some, names, named, parent_before}
+use Rattle.view_laws.proofs.TreeLemmas as tree
+
+-- a check that passed, and those after it
+passed : (check : Check) (rest : List Check) → first_of (check ∷ rest) ≡ Ok tt → (check.0 ≡ false) × (first_of rest ≡ Ok tt)
+passed (applies, refusal) rest e = go applies e
+  where
+    go : (b : Bool) → (if b then Err refusal else first_of rest) ≡ Ok tt → (b ≡ false) × (first_of rest ≡ Ok tt)
+    go true e = cc
+    go false e = (refl, e)
+
+-- what is known of a call that its input does not turn down
+record Admitted (n fanout own : ℕ) : Type 0 where
+  fanout_some : 0 < fanout
+  own_below : own < n
+
+-- the checks of what is lent
+abbrev rooms : ℕ → ℕ → Lent → List Check
+rooms n fanout lent = short_buffer (length lent.0) n ∷ short_buffer (length lent.1) (tree_size n) ∷ short_buffer (length lent.2) (min fanout n) ∷ []
+
+admitted : (n fanout own : ℕ) (lent : Lent) → first_of (checks n fanout own lent) ≡ Ok tt → Admitted n fanout own
+admitted n fanout own lent e =
+    let a = passed (list_length n) (fanout_limit fanout ∷ not_below own n ∷ rooms n fanout lent) e in
+    let b = passed (fanout_limit fanout) (not_below own n ∷ rooms n fanout lent) a.1 in
+    let c = passed (not_below own n) (rooms n fanout lent) b.1 in
+    let some : fanout ≡ 0 → ⊥ = eqb-false fanout 0 (or_parts (nat_lt 4096 fanout) (fanout == 0) b.0).1 in
+    record { fanout_some = omega arith; own_below = leb-false n own c.0 }
+
+-- what an accepted call went through
+record Unrefused (fanout own : ℕ) (r : Result (Unit {0}) Refusal) (draw : Option (List ℕ) × List ℕ) (s : Neighborhood) : Type 0 where
+  passes : r ≡ Ok tt
+  ps : List ℕ
+  drew : draw.0 ≡ Some ps
+  is : neighborhood fanout own ps ≡ s
+
+unrefused : (fanout own : ℕ) (ws : List ℕ) (r : Result (Unit {0}) Refusal) (draw : Option (List ℕ) × List ℕ) (s : Neighborhood) → (after_checks r ws (or_no_word (viewed fanout own draw))).0 ≡ Ok s → Unrefused fanout own r draw s
+unrefused fanout own ws (Err refusal) draw s e = cc
+unrefused fanout own ws (Ok passed) (None, left) s e = cc
+unrefused fanout own ws (Ok passed) (Some ps, left) s e = record { passes = refl; ps = ps; drew = refl; is = cc }
+
+none_of : (c : ℕ) → (0 < c → ⊥) → c ≡ 0
+none_of zero h = refl
+none_of (suc c) h = absurd (h (omega arith))
+
+module _ (stakes : List ℕ) (fanout : ℕ) (ws : List ℕ) where
+  abbrev n : ℕ
+  n = length stakes
+
+  abbrev ids : List ℕ
+  ids = positions (order stakes ws).0
+
+  -- what is known of an accepted view
+  record Saw (own : ℕ) (v : Viewed stakes fanout ws own) : Type 0 where
+    below : own < n
+    some : 0 < fanout
+    permutes : IsOrder n ids
+    root_is : v.view.tree.root ≡ root_of ids
+    parent_is : v.view.tree.parent ≡ parent_at fanout ids (position_of own ids)
+    children_are : children_of stakes fanout ws v ≡ children_at fanout ids (position_of own ids)
+
+  saw : (own : ℕ) (v : Viewed stakes fanout ws own) → Saw own v
+  saw own v = go (view stakes fanout own lent ws) refl v.accepts
+    where
+      lent : Lent
+      lent = (v.order_held, v.nodes_held, v.children_held)
+
+      go : (o : Result Neighborhood Refusal × List ℕ) → view stakes fanout own lent ws ≡ o → (told n lent ws o).0 ≡ Ok v.view → Saw own v
+      go (Err r, left) q e = cc
+      go (Ok s, left) q e =
+          let u = unrefused fanout own ws (first_of (checks n fanout own lent)) (order stakes ws) s (ap (λ (o : Result Neighborhood Refusal × List ℕ). o.0) q) in
+          let a = admitted n fanout own lent u.passes in
+          let is : ◌≡◌ {A = View} (record { tree = tree_of s; words_read = length ws - length left }) v.view = cc in
+          let ids-are : ids ≡ u.ps = ap positions u.drew in
+          let seen : neighborhood fanout own ids ≡ s = ap (neighborhood fanout own) ids-are ∙ u.is in
+          let tree_is : v.view.tree ≡ tree_of (neighborhood fanout own ids) = ap (λ (x : View). x.tree) (sym is) ∙ ap tree_of (sym seen) in
+          record {
+            below = a.own_below;
+            some = a.fanout_some;
+            permutes = subst (λ (ps : List ℕ). IsOrder n ps) (sym ids-are) (orders_whole stakes ws u.ps u.drew).permutation;
+            root_is = ap (λ (t : TurbineTree). t.root) tree_is;
+            parent_is = ap (λ (t : TurbineTree). t.parent) tree_is;
+            children_are =
+                ap (λ (o : Result Neighborhood Refusal × List ℕ). take v.view.tree.children (told n lent ws o).3) q
+                ∙ take_at s.children (drop (length s.children) v.children_held) v.view.tree.children (ap (λ (x : View). x.tree.children) is)
+                ∙ ap (λ (x : Neighborhood). x.children) (sym seen);
+          }
+
+  module _ (own : ℕ) (v : Viewed stakes fanout ws own) where
+    abbrev permutes : IsOrder n ids
+    permutes = (saw own v).permutes
+
+    some_ids : 0 < n
+    some_ids = omega (arith, (saw own v).below)
+
+    root-lt : root stakes fanout ws < n
+    root-lt = id_lt n ids permutes 0 some_ids
+
+    root_first : position_of (root stakes fanout ws) ids ≡ 0
+    root_first = chosen n ids permutes 0 some_ids
+
+    -- whoever is not the root stands after it
+    after_root : (own ≡ root stakes fanout ws → ⊥) → 0 < position_of own ids
+    after_root ne =
+        let apart : position_of own ids ≡ 0 → ⊥ = λ e. ne (sym (id_at n ids permutes own (saw own v).below) ∙ ap (λ (p : ℕ). get_or ids p 0) e) in
+        omega arith
+
+    names_one : (own ≡ root stakes fanout ws → ⊥) → Names stakes fanout ws own v
+    names_one ne =
+        let some = (saw own v).some in
+        let p = position_of own ids in
+        let pos = after_root ne in
+        let lower = parent_before n ids permutes fanout some p pos in
+        let q-lt : (p - 1) / fanout < n = omega (arith, lower, place_lt n ids permutes own (saw own v).below) in
+        record {
+          id = get_or ids ((p - 1) / fanout) 0;
+          is = (saw own v).parent_is ∙ names_some n ids permutes fanout some own pos;
+          below = id_lt n ids permutes ((p - 1) / fanout) q-lt;
+          other = λ e. omega (arith, lower, chosen n ids permutes ((p - 1) / fanout) q-lt, ap (λ (i : ℕ). position_of i ids) e);
+        }
+
+  module _ (i j : ℕ) (v : Viewed stakes fanout ws i) (w : Viewed stakes fanout ws j) where
+    to_parent : 0 < count i (children_of stakes fanout ws w) → parent_of stakes fanout ws v ≡ Some j
+    to_parent h =
+        let a = saw i v in
+        let b = saw j w in
+        let c = listed n ids a.permutes fanout a.some i j a.below (omega (arith, h, ap (count i) b.children_are)) in
+        a.parent_is ∙ names n ids a.permutes fanout a.some i j b.below c
+
+    to_child : parent_of stakes fanout ws v ≡ Some j → count i (children_of stakes fanout ws w) ≡ 1
+    to_child e =
+        let a = saw i v in
+        let b = saw j w in
+        ap (count i) b.children_are ∙ lists n ids a.permutes fanout a.some i j a.below (named n ids a.permutes fanout a.some i j a.below (sym a.parent_is ∙ e))
+
+  module _ (every : (j : ℕ) → j < n → Viewed stakes fanout ws j) (i : ℕ) (h : i < n) (ne : i ≡ root stakes fanout ws → ⊥) where
+    abbrev named_one : Names stakes fanout ws i (every i h)
+    named_one = names_one i (every i h) ne
+
+    one : ChildOfOne stakes fanout ws every i
+    one = record {
+      parent = named_one.id;
+      below = named_one.below;
+      lists = to_child i named_one.id (every i h) (every named_one.id named_one.below) named_one.is;
+      no_other = λ j b other. none_of _ (λ c. other (ap id_of (sym (to_parent i j (every i h) (every j b) c) ∙ named_one.is)));
+    }
+
+  root_listed_by_none : (j : ℕ) (w : Viewed stakes fanout ws j) → count (root stakes fanout ws) (children_of stakes fanout ws w) ≡ 0
+  root_listed_by_none j w =
+      let b = saw j w in
+      none_of _ (λ c.
+      let l = listed n ids b.permutes fanout b.some (root stakes fanout ws) j (root-lt j w) (omega (arith, c, ap (count (root stakes fanout ws)) b.children_are)) in
+      omega (arith, l.after_root, root_first j w))
+
+-- the claim
+pub views_consistent : ViewsConsistent
+views_consistent stakes fanout ws = record {
+  own_below = λ i v. (saw stakes fanout ws i v).below;
+  root_named = λ i v. (saw stakes fanout ws i v).root_is;
+  root_below = root-lt stakes fanout ws;
+  root_alone = λ v.
+      (saw stakes fanout ws (root stakes fanout ws) v).parent_is
+      ∙ names_none (length stakes) _ (saw stakes fanout ws (root stakes fanout ws) v).permutes fanout (saw stakes fanout ws (root stakes fanout ws) v).some (root stakes fanout ws)
+      (root_first stakes fanout ws (root stakes fanout ws) v);
+  others = names_one stakes fanout ws;
+  match = λ i j ne v w. (to_parent stakes fanout ws i j v w, λ e. let c : count i (children_of stakes fanout ws w) ≡ 1 = to_child stakes fanout ws i j v w e in omega arith);
+  once = λ i j ne v w h. to_child stakes fanout ws i j v w (to_parent stakes fanout ws i j v w h);
+  not_own = λ i v.
+      ap (count i) (saw stakes fanout ws i v).children_are
+      ∙ tree.not_own (length stakes) _ (saw stakes fanout ws i v).permutes fanout (saw stakes fanout ws i v).some i (saw stakes fanout ws i v).below;
+  child_of_one = one stakes fanout ws;
+  root_no_child = root_listed_by_none stakes fanout ws;
+}
