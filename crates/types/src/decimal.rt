@@ -1,44 +1,18 @@
-// A number as decimal digits, in ASCII.
-ghost use Rattle.std.specs.Prelude.{◌≡◌, length};
-ghost use Rattle.types.specs.Decimal.{digits, formatted, buffer_after};
+ghost use Rattle.std.specs.Prelude.{◌≡◌};
+ghost use Rattle.types.specs.Decimal.{write_decimal};
 
-// What writing digits to a lent buffer gives.
-#[derive(Clone, Copy, Drop)]
-pub enum Formatted {
-    // How many digits now stand at the front of the buffer.
-    Written(usize),
-    // The buffer is shorter than the digits, and is as it was.
-    NoRoom,
-}
+use itoa::Buffer;
 
-// How many decimal digits n has.
-fn count_digits(n: u64) -> usize
-    ensures { result ≡ length (digits n) }
+/// Writes the decimal digits of `n` to the front of the buffer, and gives how many there are. A buffer that is shorter than the digits is
+/// left as it is.
+pub fn write_decimal(n: u64, buffer: &mut [u8]) -> Option<usize>
+    ensures { (result, buffer.new) ≡ write_decimal n buffer.old }
 {
-    let mut rest = n;
-    let mut count = 1;
-    while 10 <= rest {
-        rest /= 10;
-        count += 1;
+    let mut text = Buffer::new();
+    let digits = text.format(n).as_bytes();
+    if buffer.len() < digits.len() {
+        return None;
     }
-    count
-}
-
-// Writes the decimal digits of n to the front of the buffer.
-pub fn write_decimal(n: u64, buffer: &mut [u8]) -> Formatted
-    ensures value { result ≡ formatted (digits n) buffer.old }
-    ensures buffer_after { buffer.new ≡ buffer_after (digits n) buffer.old }
-{
-    let count = count_digits(n);
-    if buffer.len() < count {
-        return Formatted::NoRoom;
-    }
-    let mut rest = n;
-    let mut at = count;
-    while 0 < at {
-        at -= 1;
-        buffer[at] = b'0' + (rest % 10) as u8;
-        rest /= 10;
-    }
-    Formatted::Written(count)
+    buffer[..digits.len()].copy_from_slice(digits);
+    Some(digits.len())
 }
