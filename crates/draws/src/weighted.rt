@@ -1,4 +1,4 @@
-ghost use Rattle.std.specs.Prelude.{◌≡◌, ◌<◌, Ok, IfSome, length, sum};
+ghost use Rattle.std.specs.Prelude.{◌≡◌, ◌<◌, Ok, IfSome, length, take, sum};
 ghost use Rattle.refusals.specs.Refusal.{first_of, sum_checks, unless};
 ghost use Rattle.draws.specs.Weighted.{place_of, weighted, Placed};
 
@@ -66,11 +66,19 @@ impl<'a> Weights<'a> {
         ensures placed { Placed self.now result }
     {
         let at = first_above(self.sums, v);
-        let before = if at == 0 { 0 } else { self.sums[at - 1] };
         Place {
             at,
-            remainder: v - before,
+            remainder: v - self.sum_before(at),
         }
+    }
+
+    // The sum of the weights before a place.
+    #[inline(always)]
+    fn sum_before(&self, at: usize) -> u64
+        requires { at < length self.now }
+        ensures { result ≡ sum (take at self.now) }
+    {
+        if at == 0 { 0 } else { self.sums[at - 1] }
     }
 }
 
