@@ -1,4 +1,4 @@
--- The validators that values choose, one piece at a time.
+-- Values with validators in their places, one piece at a time.
 use Rattle.std.proofs.Common.{◌≡◌, ℕ, zero, suc, ◌+◌, ◌-◌, ◌<◌, ◌≤◌, if◌then◌else◌, ◌&&◌, List, [], ◌∷◌, length, get_or, take, drop, set, refl, ap, arith, take_at}
 use Rattle.std.specs.Prelude.{◌==◌, nat_lt}
 use Rattle.std.proofs.lemmas.List.{length-map}
@@ -6,7 +6,7 @@ use Rattle.fill.specs.declared.piece.Piece.{Piece}
 use Rattle.fill.specs.declared.columns.Columns.{Columns}
 use Rattle.fill.specs.Columns.{HaveRoom, Begin}
 use Rattle.fill.specs.Piece.{bins_of, validators_of, stakes_of}
-use Rattle.fill.specs.Values.{rows, rows_of, chosen}
+use Rattle.fill.specs.Values.{rows, rows_of, replaced}
 
 rows-at : (bins validators stakes : List ℕ) (n at : ℕ) → at < n → n ≤ length bins → n ≤ length validators → n ≤ length stakes →
     drop at (rows (take n bins) (take n validators) (take n stakes))
@@ -27,13 +27,13 @@ rows-end (j ∷ bins) [] stakes (suc n) (suc at) end = refl
 rows-end (j ∷ bins) (i ∷ validators) [] (suc n) (suc at) end = refl
 rows-end (j ∷ bins) (i ∷ validators) (x ∷ stakes) (suc n) (suc at) end = rows-end bins validators stakes n at (omega arith)
 
-pub chosen_step : (next n at : ℕ) (columns : Columns) (held : List ℕ) → at < n → HaveRoom columns n →
-    chosen next (drop at (rows_of n columns)) held
-    ≡ (if get_or columns.bins.now at 0 == next && nat_lt next (length held) then (if nat_lt (get_or held next 0) (get_or columns.stakes.now at 0) then chosen (next + 1) (drop (at + 1) (rows_of n columns)) (set held next (get_or columns.validators.now at 0)) else chosen next (drop (at + 1) (rows_of n columns)) (set held next (get_or held next 0 - get_or columns.stakes.now at 0))) else chosen next (drop (at + 1) (rows_of n columns)) held)
-chosen_step next n at columns held low room = let after : at + 1 ≡ suc at = omega arith in rw (after, rows-at columns.bins.now columns.validators.now columns.stakes.now n at low room.bins room.validators room.stakes) refl
+pub replaced_step : (next n at : ℕ) (columns : Columns) (held : List ℕ) → at < n → HaveRoom columns n →
+    replaced next (drop at (rows_of n columns)) held
+    ≡ (if get_or columns.bins.now at 0 == next && nat_lt next (length held) then (if nat_lt (get_or held next 0) (get_or columns.stakes.now at 0) then replaced (next + 1) (drop (at + 1) (rows_of n columns)) (set held next (get_or columns.validators.now at 0)) else replaced next (drop (at + 1) (rows_of n columns)) (set held next (get_or held next 0 - get_or columns.stakes.now at 0))) else replaced next (drop (at + 1) (rows_of n columns)) held)
+replaced_step next n at columns held low room = let after : at + 1 ≡ suc at = omega arith in rw (after, rows-at columns.bins.now columns.validators.now columns.stakes.now n at low room.bins room.validators room.stakes) refl
 
-pub chosen_end : (next n at : ℕ) (columns : Columns) (held : List ℕ) → n ≤ at → chosen next (drop at (rows_of n columns)) held ≡ held
-chosen_end next n at columns held end = rw (rows-end columns.bins.now columns.validators.now columns.stakes.now n at end) refl
+pub replaced_end : (next n at : ℕ) (columns : Columns) (held : List ℕ) → n ≤ at → replaced next (drop at (rows_of n columns)) held ≡ held
+replaced_end next n at columns held end = rw (rows-end columns.bins.now columns.validators.now columns.stakes.now n at end) refl
 
 rows-pieces : (ps : List Piece) → rows (bins_of ps) (validators_of ps) (stakes_of ps) ≡ ps
 rows-pieces [] = refl

@@ -11,7 +11,10 @@ use Rattle.fill.specs.declared.piece.Piece.{Piece}
 use Rattle.fill.specs.declared.columns.Columns.{Columns}
 use Rattle.fill.specs.Columns.{HaveRoom, SameLoans, PutAt, Begin}
 use Rattle.fill.proofs.PieceLemmas.{begin-more}
-use Rattle.fill.specs.Fill.{Share, in_order, put, taken, left, fill, numbered, pieces, total}
+use Rattle.fill.specs.Fill.{Share, in_order, share_stakes, bin_total, put, taken, left, fill, numbered, pieces}
+
+pub bin_total-cons : (x : Share) (xs : List Share) → bin_total (x ∷ xs) ≡ x.stake + bin_total xs
+bin_total-cons x xs = sum_by-cons (λ n. n) x.stake (share_stakes xs)
 
 -- a piece, if it has stake
 abbrev pub added : Piece → List Piece
@@ -81,9 +84,9 @@ pub record FilledTo (old columns : Columns) (weights order : List ℕ) (capacity
   pub bin_low : bin < bins
   pub few : count ≤ at + bin
   pub used_low : at < length order → used ≤ get_or weights (get_or order at 0) 0
-  pub fits : total (reduced used (in_order weights (drop at order))) ≤ room + (bins - (bin + 1)) * capacity
+  pub fits : bin_total (reduced used (in_order weights (drop at order))) ≤ room + (bins - (bin + 1)) * capacity
 
-pub initial : (columns : Columns) (weights order : List ℕ) (capacity bins : ℕ) → 0 < bins → total (in_order weights order) ≤ bins * capacity →
+pub initial : (columns : Columns) (weights order : List ℕ) (capacity bins : ℕ) → 0 < bins → bin_total (in_order weights order) ≤ bins * capacity →
     FilledTo columns columns weights order capacity bins 0 0 capacity 0 0
 initial columns weights order capacity zero some fits = absurd (omega arith)
 initial columns weights order capacity (suc b) some fits =
@@ -153,7 +156,7 @@ step_whole old columns new weights order capacity bins count bin room at used pl
       bin_low = to.bin_low;
       few = omega (arith, put.2, to.few);
       used_low = λ h. omega arith;
-      fits = rw (reduced-zero xs) (omega (arith, to.fits, ap total head, sum_by-cons (λ x. x.stake) (record { validator = v; stake = w - used }) xs));
+      fits = rw (reduced-zero xs) (omega (arith, to.fits, ap bin_total head, bin_total-cons (record { validator = v; stake = w - used }) xs));
     }
 
 pub step_part : (old columns new : Columns) (weights order : List ℕ) (capacity bins count bin room at used place : ℕ) → FilledTo old columns weights order capacity bins count bin room at used →
@@ -170,8 +173,8 @@ step_part old columns new weights order capacity bins count bin room at used pla
     let over : w - (w - (w - used - room)) ≡ w - used - room = omega arith in
     let next : reduced (w - (w - used - room)) (in_order weights (drop at order)) ≡ record { validator = v; stake = w - used - room } ∷ xs =
     shares_at weights order at (w - (w - used - room)) within ∙ ap (λ (n : ℕ). record { validator = v; stake = n } ∷ xs) over in
-    let sums = sum_by-cons (λ x. x.stake) (record { validator = v; stake = w - used }) xs in
-    let more : 0 < bins - (bin + 1) = another_bin (bins - (bin + 1)) capacity room (w - used) large (omega (arith, to.fits, ap total head, sums)) in
+    let sums = bin_total-cons (record { validator = v; stake = w - used }) xs in
+    let more : 0 < bins - (bin + 1) = another_bin (bins - (bin + 1)) capacity room (w - used) large (omega (arith, to.fits, ap bin_total head, sums)) in
     let one_less : bins - (bin + 1) ≡ suc b = omega arith in
     let put = put_step old columns new to.front count place piece to.count_is (more_room old count at bin (length order) bins to.few within to.bin_low places) to.begin stored.placed stored.none stored.put in
     record {
@@ -188,7 +191,7 @@ step_part old columns new weights order capacity bins count bin room at used pla
       bin_low = omega arith;
       few = omega (arith, put.2, to.few);
       used_low = λ h. omega arith;
-      fits = omega (arith, to.fits, ap total head, sums, ap total next, sum_by-cons (λ x. x.stake) (record { validator = v; stake = w - used - room }) xs, ap (λ (n : ℕ). n * capacity) one_less, suc-mul b capacity);
+      fits = omega (arith, to.fits, ap bin_total head, sums, ap bin_total next, bin_total-cons (record { validator = v; stake = w - used - room }) xs, ap (λ (n : ℕ). n * capacity) one_less, suc-mul b capacity);
     }
 
 -- after the last stake all pieces stand

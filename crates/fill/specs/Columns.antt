@@ -2,7 +2,6 @@
 use Rattle.std.specs.Prelude.{ℕ, ◌≡◌, ◌≤◌, ◌++◌, List, map, length, drop, set}
 use Rattle.fill.specs.declared.columns.Columns.{Columns}
 use Rattle.fill.specs.declared.piece.Piece.{Piece}
-use Rattle.fill.specs.Piece.{bins_of, validators_of, stakes_of}
 
 -- each column has so many places
 pub record HaveRoom (columns : Columns) (places : ℕ) : Type 0 where
@@ -22,12 +21,12 @@ pub record PutAt (old new : Columns) (at : ℕ) (piece : Piece) : Type 0 where
   pub validators : new.validators.now ≡ set old.validators.now at piece.validator
   pub stakes : new.stakes.now ≡ set old.stakes.now at piece.stake
 
--- the pieces stand at the front, and past them is what was there
-pub record Begin (old new : Columns) (pieces : List Piece) : Type 0 where
-  pub bins : new.bins.now ≡ bins_of pieces ++ drop (length pieces) old.bins.now
-  pub validators : new.validators.now ≡ validators_of pieces ++ drop (length pieces) old.validators.now
-  pub stakes : new.stakes.now ≡ stakes_of pieces ++ drop (length pieces) old.stakes.now
-
--- what a lent column holds after the pieces are written to its front
+-- what a lent column holds after the pieces are written to its front: past them is what was there
 abbrev pub column_after : (Piece → ℕ) → List Piece → List ℕ → List ℕ
 column_after part pieces held = map part pieces ++ drop (length pieces) held
+
+-- the pieces stand at the front of the columns
+pub record Begin (old new : Columns) (pieces : List Piece) : Type 0 where
+  pub bins : new.bins.now ≡ column_after (λ p. p.bin) pieces old.bins.now
+  pub validators : new.validators.now ≡ column_after (λ p. p.validator) pieces old.validators.now
+  pub stakes : new.stakes.now ≡ column_after (λ p. p.stake) pieces old.stakes.now

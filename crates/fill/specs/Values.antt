@@ -1,30 +1,49 @@
--- A seat from each bin; and how it is found: a value below the bin's sum, and the validator that it chooses.
-use Rattle.std.specs.Prelude.{ℕ, zero, suc, ◌+◌, ◌-◌, min, ◌&&◌, if◌then◌else◌, Option, Some, List, [], ◌∷◌, map, length, take, slice_index, set, ◌==◌, nat_lt}
+-- A seat from each bin. A value is drawn for it before anything is known of the bin's shares, and chooses one of them later.
+use Rattle.std.specs.Prelude.{ℕ, zero, suc, ◌+◌, ◌-◌, ◌<◌, min, ◌&&◌, if◌then◌else◌, Option, Some, List, [], ◌∷◌, map, length, take, slice_index, set, ◌==◌, nat_lt}
 use Rattle.words.specs.Draw.{and_then}
+use Rattle.draws.specs.declared.weighted.Place.{Place}
 use Rattle.draws.specs.Below.{below}
-use Rattle.draws.specs.Weighted.{weighted}
+use Rattle.draws.specs.Weighted.{place_of, weighted}
 use Rattle.fill.specs.declared.piece.Piece.{Piece}
 use Rattle.fill.specs.declared.columns.Columns.{Columns}
-use Rattle.fill.specs.Fill.{Share}
+use Rattle.fill.specs.Fill.{Share, share_stakes}
 
 -- the validator whose share stands at a place of a bin
 abbrev pub holder : List Share → ℕ → ℕ
-holder bin place = slice_index (map (λ x. x.validator) bin) place
+holder bin at = slice_index (map (λ x. x.validator) bin) at
 
--- one weighted draw from a bin
-abbrev pub seat : List Share → List ℕ → Option ℕ × List ℕ
-seat bin ws = and_then (weighted (map (λ x. x.stake) bin) ws) (λ place left. (Some (holder bin place), left))
+-- the validator at a place of a bin, with the remainder of the draw
+abbrev pub seat_of : List Share → Place → Place
+seat_of bin p = record { at = holder bin p.at; remainder = p.remainder }
 
--- one seat from each bin, in the order of the bins
-abbrev pub seats : List (List Share) → List ℕ → Option (List ℕ) × List ℕ
+-- "One weighted draw from each bin"
+abbrev pub seat : List Share → List ℕ → Option Place × List ℕ
+seat bin ws = and_then (weighted (share_stakes bin) ws) (λ p left. (Some (seat_of bin p), left))
+
+-- "in bin order"
+abbrev pub seats : List (List Share) → List ℕ → Option (List Place) × List ℕ
 seats [] ws = (Some [], ws)
 seats (bin ∷ bins) ws = and_then (seat bin ws) (λ one left. and_then (seats bins left) (λ others rest. (Some (one ∷ others), rest)))
 
--- a value for each of b bins, below its sum: the capacity, or what is left of the sum S of all stakes
-abbrev pub values_below : ℕ → ℕ → ℕ → List ℕ → Option (List ℕ) × List ℕ
-values_below capacity zero S ws = (Some [], ws)
-values_below capacity (suc b) S ws =
-    and_then (below (min capacity S) ws) (λ v left. and_then (values_below capacity b (S - capacity) left) (λ vs rest. (Some (v ∷ vs), rest)))
+-- the sums of b bins: the capacity, or what is left of the sum S of all stakes
+abbrev pub bin_sums : ℕ → ℕ → ℕ → List ℕ
+bin_sums capacity zero S = []
+bin_sums capacity (suc b) S = min capacity S ∷ bin_sums capacity b (S - capacity)
+
+-- a value below each of the sums
+abbrev pub values_below : List ℕ → List ℕ → Option (List ℕ) × List ℕ
+values_below [] ws = (Some [], ws)
+values_below (m ∷ sums) ws = and_then (below m ws) (λ v left. and_then (values_below sums left) (λ vs rest. (Some (v ∷ vs), rest)))
+
+-- each value is below the sum of its bin
+abbrev pub Low : List ℕ → List ℕ → Type 0
+Low sums values = (j : ℕ) → j < length sums → slice_index values j < slice_index sums j
+
+-- the seats that values choose, each in its bin
+abbrev pub choices : List (List Share) → List ℕ → List Place
+choices [] vs = []
+choices (bin ∷ bins) [] = []
+choices (bin ∷ bins) (v ∷ vs) = seat_of bin (place_of (share_stakes bin) v) ∷ choices bins vs
 
 -- the pieces that stand in three columns
 abbrev pub rows : List ℕ → List ℕ → List ℕ → List Piece
@@ -37,9 +56,12 @@ rows (j ∷ bins) (i ∷ validators) (x ∷ stakes) = record { bin = j; validato
 abbrev pub rows_of : ℕ → Columns → List Piece
 rows_of n columns = rows (take n columns.bins.now) (take n columns.validators.now) (take n columns.stakes.now)
 
--- the validators that values choose among pieces, from the next bin on: a piece of that bin gives its validator where the value is below
--- its stake, and else leaves what the value exceeds it by
-abbrev pub chosen : ℕ → List Piece → List ℕ → List ℕ
-chosen next [] held = held
-chosen next (piece ∷ ps) held =
-    (if piece.bin == next && nat_lt next (length held) then (if nat_lt (slice_index held next) piece.stake then chosen (next + 1) ps (set held next piece.validator) else chosen next ps (set held next (slice_index held next - piece.stake))) else chosen next ps held)
+-- values with validators in their places, from the next bin on, by one piece after another: a piece of that bin gives its validator where
+-- the value is below its stake, and else leaves what the value exceeds it by
+abbrev pub replaced : ℕ → List Piece → List ℕ → List ℕ
+replaced next [] held = held
+replaced next (piece ∷ ps) held =
+    (if piece.bin == next && nat_lt next (length held)
+    then (if nat_lt (slice_index held next) piece.stake then replaced (next + 1) ps (set held next piece.validator)
+    else replaced next ps (set held next (slice_index held next - piece.stake)))
+    else replaced next ps held)

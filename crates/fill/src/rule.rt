@@ -1,5 +1,5 @@
 ghost use Rattle.std.specs.Prelude.{◌≡◌, ◌+◌, ◌*◌, ◌<◌, ◌≤◌, length, All, if◌then◌else◌, ◌==◌};
-ghost use Rattle.fill.specs.Fill.{in_order, fill, pieces, total};
+ghost use Rattle.fill.specs.Fill.{in_order, bin_total, fill, pieces};
 ghost use Rattle.fill.specs.Columns.{HaveRoom, SameLoans, Begin, PutAt};
 
 use crate::columns::Columns;
@@ -32,7 +32,7 @@ pub fn fill(
     requires some { 0 < bins }
     requires few { bins ≤ 1024 }
     requires ids { All (λ i. i < length weights.now) order.now }
-    requires room { total (in_order weights.now order.now) ≤ bins * capacity }
+    requires room { bin_total (in_order weights.now order.now) ≤ bins * capacity }
     requires places { HaveRoom columns.old (length order.now + bins) }
     ensures count { result ≡ length (pieces 0 (fill capacity bins (in_order weights.now order.now))) }
     ensures begin { Begin columns.old columns.new (pieces 0 (fill capacity bins (in_order weights.now order.now))) }

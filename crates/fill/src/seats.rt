@@ -1,16 +1,17 @@
 ghost use Rattle.std.specs.Prelude.{◌≡◌, ◌+◌, ◌*◌, ◌<◌, ◌≤◌, length, All};
-ghost use Rattle.fill.specs.Fill.{in_order, fill, pieces, total};
-ghost use Rattle.fill.specs.Values.{rows_of, chosen};
+ghost use Rattle.draws.specs.Weighted.{ids};
 ghost use Rattle.fill.specs.Columns.{HaveRoom, SameLoans, Begin};
+ghost use Rattle.fill.specs.Fill.{in_order, bin_total, fill, pieces};
+ghost use Rattle.fill.specs.Values.{bin_sums, Low, choices, rows_of, replaced};
 
-use crate::rule::fill;
 use crate::columns::Columns;
+use crate::rule::fill;
 
 // Puts in the place of each bin's value the validator that it chooses. A value counts from the first piece of its bin on.
-#[tactic(auto, using(crate::proofs::ChooseLemmas::chosen_step, crate::proofs::ChooseLemmas::chosen_end))]
+#[tactic(auto, using(crate::proofs::ChooseLemmas::replaced_step, crate::proofs::ChooseLemmas::replaced_end))]
 fn choose(columns: &Columns, pieces: usize, seats: &mut [u64])
     requires { HaveRoom columns.now pieces }
-    ensures { seats.new ≡ chosen 0 (rows_of pieces columns.now) seats.old }
+    ensures { seats.new ≡ replaced 0 (rows_of pieces columns.now) seats.old }
 {
     let mut next = 0;
     for at in 0..pieces {
@@ -39,12 +40,13 @@ pub fn fill_and_choose(
     requires some { 0 < length seats.old }
     requires few { length seats.old ≤ 1024 }
     requires ids { All (λ i. i < length weights.now) order.now }
-    requires room { total (in_order weights.now order.now) ≤ length seats.old * capacity }
+    requires room { bin_total (in_order weights.now order.now) ≤ length seats.old * capacity }
+    requires low { Low (bin_sums capacity (length seats.old) (bin_total (in_order weights.now order.now))) seats.old }
     requires places { HaveRoom columns.old (length order.now + length seats.old) }
     ensures count { result ≡ length (pieces 0 (fill capacity (length seats.old) (in_order weights.now order.now))) }
     ensures begin { Begin columns.old columns.new (pieces 0 (fill capacity (length seats.old) (in_order weights.now order.now))) }
     ensures same { SameLoans columns.old columns.new }
-    ensures seats { seats.new ≡ chosen 0 (pieces 0 (fill capacity (length seats.old) (in_order weights.now order.now))) seats.old }
+    ensures seats { seats.new ≡ ids (choices (fill capacity (length seats.old) (in_order weights.now order.now)) seats.old) }
 {
     let pieces = fill(weights, order, capacity, seats.len(), columns);
     choose(columns, pieces, seats);
