@@ -1,14 +1,15 @@
 -- Running sums, and the place that a value chooses among them.
-use Rattle.std.proofs.Common.{◌≡◌, ℕ, zero, suc, Bool, true, false, if◌then◌else◌, ltb-true, ltb-false, ◌+◌, ◌-◌, ◌<◌, ◌≤◌, ◌^◌, List, [], ◌∷◌, length, get_or, take, refl, ap, sym, subst, ◌∙◌, arith, lt-ltb, le-ltb, ne_eqb, Ok}
+use Rattle.std.proofs.Common.{◌≡◌, ℕ, zero, suc, ◌+◌, ◌-◌, ◌<◌, ◌≤◌, ◌^◌, List, [], ◌∷◌, length, get_or, take, refl, ap, sym, subst, ◌∙◌, arith, lt-ltb, le-ltb, ne_eqb, Ok}
 use Rattle.std.proofs.Math.Seq.{take-length}
 use borrow.Author.Tests.{lt-leb}
 use Rattle.refusals.specs.Refusal.{first_of, sum_checks, unless}
-use Rattle.std.specs.Prelude.{sum, slice_index, nat_lt}
+use Rattle.std.specs.Prelude.{sum}
 use Rattle.std.proofs.lemmas.List.Sums.{sum_by-cons}
 use Rattle.draws.specs.Sums.{differences, NeverFall, AreSums}
+use Rattle.draws.proofs.WeightedLemmas.{IsChosen, chosen_is}
 use Rattle.sorted.specs.Search.{IsIn}
 use Rattle.draws.specs.declared.weighted.Place.{Place}
-use Rattle.draws.specs.Weighted.{chosen, place_of, Placed, HasWeight}
+use Rattle.draws.specs.Weighted.{chosen, place_of}
 
 -- the sum of the weights is the last running sum
 pub sum-differences : (before s : ℕ) (sums : List ℕ) → NeverFall before (s ∷ sums) → before + sum (differences before (s ∷ sums)) ≡ get_or (s ∷ sums) (length sums) 0
@@ -94,49 +95,21 @@ sum_before sums weights total at are_sums shown within some =
       is = omega (arith, sum_up_to 0 (at - 1) sums are_sums.never_fall within_sums, ap (λ (ws : List ℕ). sum (take (suc (at - 1)) ws)) shown, ap (λ k. sum (take k weights)) last);
     }
 
--- where a value below the sum falls: the weights before its place sum to no more than it, and it is below that sum and the weight there
-pub record Falls (weights : List ℕ) (v place : ℕ) : Type 0 where
-  pub within : place < length weights
-  pub from : sum (take place weights) ≤ v
-  pub below_weight : v - sum (take place weights) < slice_index weights place
-
-pub chosen-falls : (weights : List ℕ) (v : ℕ) → v < sum weights → Falls weights v (chosen weights v)
-chosen-falls [] v low = absurd (omega arith)
-chosen-falls (w ∷ weights) v low = go (nat_lt v w) refl (chosen-falls weights (v - w))
-  where
-    go : (b : Bool) → nat_lt v w ≡ b → (v - w < sum weights → Falls weights (v - w) (chosen weights (v - w))) → Falls (w ∷ weights) v (if b then 0 else suc (chosen weights (v - w)))
-    go true here rest = record { within = omega arith; from = omega arith; below_weight = omega (arith, ltb-true v w here) }
-    go false past rest =
-        let there = rest (omega (arith, ltb-false v w past, sum_by-cons (λ x. x) w weights)) in
-        let one_more = sum_by-cons (λ x. x) w (take (chosen weights (v - w)) weights) in
-        record {
-          within = omega (arith, there.within);
-          from = omega (arith, one_more, there.from, ltb-false v w past);
-          below_weight = omega (arith, one_more, there.below_weight, ltb-false v w past);
-        }
-
 -- what the search of the running sums finds
 pub record Found (weights : List ℕ) (v at : ℕ) : Type 0 where
   pub is : at ≡ chosen weights v
-  pub falls : Falls weights v at
+  pub chosen_there : IsChosen weights v at
 
 pub found : (sums weights : List ℕ) (total v at : ℕ) → AreSums sums total → differences 0 sums ≡ weights → v < sum weights → IsIn sums v at 0 → Found weights v at
 found sums weights total v at are_sums shown low is_in =
     let is : at ≡ chosen weights v =
     chosen-sums sums v at are_sums.never_fall (omega (arith, is_in.within)) is_in.before (λ k from. is_in.after k (omega arith)) ∙ ap (λ (ws : List ℕ). chosen ws v) shown in
-    record { is = is; falls = subst (Falls weights v) (sym is) (chosen-falls weights v low) }
+    record { is = is; chosen_there = subst (IsChosen weights v) (sym is) (chosen_is weights v low) }
 
 -- the place and its remainder
 pub place_made : (weights : List ℕ) (v at before : ℕ) → Found weights v at → before ≡ sum (take at weights) →
     ◌≡◌ {A = Place} (record { at = at; remainder = v - before }) (place_of weights v)
-place_made weights v at before found is = rw (is, found.is) refl
-
-pub chosen-placed : (weights : List ℕ) (v : ℕ) → v < sum weights → Placed weights (place_of weights v)
-chosen-placed weights v low = let there = chosen-falls weights v low in record { within = there.within; below_weight = there.below_weight }
-
--- a place with a remainder has weight
-pub placed-has_weight : (weights : List ℕ) (p : Place) → Placed weights p → HasWeight weights p.at
-placed-has_weight weights p placed = record { within = placed.within; some = omega (arith, placed.below_weight) }
+place_made weights v at before there is = rw (is, there.is) refl
 
 pub sums_from_totals : (weights sums : List ℕ) → length weights ≡ length sums → ((k : ℕ) → k < length sums → get_or sums k 0 ≡ sum (take (k + 1) weights)) →
     (differences 0 sums ≡ weights) × NeverFall 0 sums

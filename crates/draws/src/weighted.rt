@@ -82,6 +82,24 @@ impl<'a> Weights<'a> {
     }
 }
 
+/// The same by a walk over the weights, for one draw alone: it needs no running sums.
+#[tactic(auto, using(crate::proofs::WeightedLemmas::walked_to))]
+pub fn walked_place(weights: &[u64], v: u64) -> Place
+    requires { v < sum weights.now }
+    ensures place { result ≡ place_of weights.now v }
+    ensures placed { Placed weights.now result }
+{
+    let mut place = Place {
+        at: 0,
+        remainder: v,
+    };
+    while weights[place.at] <= place.remainder {
+        place.remainder -= weights[place.at];
+        place.at += 1;
+    }
+    place
+}
+
 /// A place among the weights, each for as many values as its weight counts; `None` where the words run out.
 #[inline(always)]
 pub fn draw_weighted<W: WordSource>(words: &mut W, weights: &Weights) -> Option<Place>
