@@ -8,7 +8,7 @@ use Rattle.std.proofs.Math.Seq.{set-append_seam}
 use Rattle.tree.specs.declared.tree.Tree.{Tree}
 use Rattle.tree.specs.Holds.{weights_of, Holds, IsTreeOf, SameTree}
 use Rattle.weighted_shuffle.specs.Order.{counts, counted_from, counted, zeros_from, zeros_of}
-use Rattle.weighted_shuffle.specs.State.{heavy, from_end, Filled}
+use Rattle.weighted_shuffle.specs.State.{heavy, from_end, Begun}
 use Rattle.weighted_shuffle.proofs.StepLemmas.{length-end, ends_alike}
 
 pub length-counted : (before : ℕ) (ws : List ℕ) → length (counted_from before ws) ≡ length ws
@@ -70,8 +70,8 @@ filled_none weights tree drawn holds are room =
     record { holds = holds; same = record { nodes = refl; count = refl; first = refl }; are = rw all are; long = room; few = omega arith; zeros_are = refl }
 
 module _ {weights drawn : List ℕ} {tree₀ tree : Tree} {zeros i : ℕ} (to : FilledTo weights tree₀ tree drawn zeros i) where
-  pub filled_all : length weights ≤ i → i ≤ length weights → Filled weights tree drawn
-  filled_all past within =
+  pub filled_all : tree₀.count ≡ length weights → length weights ≤ i → i ≤ length weights → Begun weights tree drawn
+  filled_all many past within =
       let end : i ≡ length weights = omega arith in
       let none : length weights - i ≡ 0 = omega arith in
       let whole' : take i weights ≡ weights = take_all i weights past in
@@ -80,7 +80,7 @@ module _ {weights drawn : List ℕ} {tree₀ tree : Tree} {zeros i : ℕ} (to : 
       omega (arith, to.long, heavy-zeros 0 (counted weights), length-counted 0 weights, ap length (to.zeros_are ∙ ap (λ (xs : List ℕ). zeros_of (counted xs)) whole'), length-end zeros (length drawn) drawn) in
       record {
         holds = to.holds;
-        room = to.long;
+        count = to.same.count ∙ many;
         left = rw (are, count, to.zeros_are, whole') refl;
       }
 

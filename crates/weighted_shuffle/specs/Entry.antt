@@ -10,8 +10,8 @@ use Rattle.weighted_shuffle.specs.declared.entry.Order.{Order}
 use Rattle.weighted_shuffle.specs.Order.{order}
 
 -- the checks of a call with so many places and nodes, in order
-abbrev pub checks : ℕ → ℕ → ℕ → List Check
-checks n places nodes = long_list n ∷ short_buffer places n ∷ short_buffer nodes (tree_size n) ∷ []
+abbrev pub shuffle_checks : ℕ → ℕ → ℕ → List Check
+shuffle_checks n places nodes = long_list n ∷ short_buffer places n ∷ short_buffer nodes (tree_size n) ∷ []
 
 -- the order of a call whose checks pass
 abbrev pub whole_order : List ℕ → List ℕ → Result (List ℕ) Refusal × List ℕ
@@ -19,14 +19,18 @@ whole_order weights ws = or_no_word (order weights ws)
 
 -- the order, or the first reason to turn the call down
 abbrev pub shuffled : List ℕ → ℕ → ℕ → List ℕ → Result (List ℕ) Refusal × List ℕ
-shuffled weights places nodes ws = after_checks (first_of (checks (length weights) places nodes)) ws (whole_order weights ws)
+shuffled weights places nodes ws = after_checks (first_of (shuffle_checks (length weights) places nodes)) ws (whole_order weights ws)
 
--- the answer of a call, what the lent places and nodes hold after it, and the words that are left: the order stands in front and every
--- sum in the tree is 0 where the call is accepted, and else they hold what they held
+-- after a whole order every sum in the tree is 0: what the lent nodes then hold, of which the tree has so many
+abbrev pub nodes_after : ℕ → List Node → List Node
+nodes_after size held = replicate size zero_node ++ drop size held
+
+-- the answer of a call, what the lent places and nodes hold after it, and the words that are left: the order stands in front where the
+-- call is accepted, and else both hold what they held
 abbrev pub answered : List ℕ → List ℕ → List Node → List ℕ → Result (List ℕ) Refusal × List ℕ → Result Order Refusal × List ℕ × List Node × List ℕ
 answered weights held nodes ws (Err refusal, left) = (Err refusal, held, nodes, left)
 answered weights held nodes ws (Ok ps, left) =
-    (Ok (record { words_read = length ws - length left }), ps ++ drop (length ps) held, replicate (tree_size (length weights)) zero_node ++ drop (tree_size (length weights)) nodes, left)
+    (Ok (record { words_read = length ws - length left }), ps ++ drop (length ps) held, nodes_after (tree_size (length weights)) nodes, left)
 
 abbrev pub without_words : {A B C : Type 0} → A × B × C × List ℕ → A × B × C
 without_words (a, b, c, left) = (a, b, c)

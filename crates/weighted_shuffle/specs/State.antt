@@ -18,12 +18,12 @@ from_end (suc z) n places = get_or places (n - 1) 0 ∷ from_end z (n - 1) place
 abbrev pub left_of : ℕ → List ℕ → List ℕ → Left
 left_of i weights drawn = record { weights = weights; zeros = from_end (length drawn - i - heavy weights) (length drawn) drawn }
 
--- the step to place i
-abbrev pub step_to : ℕ → List ℕ → List ℕ → Step
-step_to i weights drawn = record { position = get_or drawn i 0; rest = left_of (i + 1) weights drawn }
+-- the step to place i that yields a position
+abbrev pub step_to : ℕ → ℕ → List ℕ → List ℕ → Step
+step_to i position weights drawn = record { position = position; rest = left_of (i + 1) weights drawn }
 
 -- before the first step
-pub record Filled (weights : List ℕ) (tree : Tree) (drawn : List ℕ) : Type 0 where
+pub record Begun (weights : List ℕ) (tree : Tree) (drawn : List ℕ) : Type 0 where
   pub holds : Holds tree (weights_of tree)
-  pub room : length drawn ≡ length weights
+  pub count : tree.count ≡ length weights
   pub left : left_of 0 (weights_of tree) drawn ≡ whole weights

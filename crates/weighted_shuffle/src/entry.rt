@@ -5,10 +5,10 @@ ghost use Rattle.tree.specs.Tree.{zero_node};
 ghost use Rattle.weighted_shuffle.specs.Order.{order};
 ghost use Rattle.weighted_shuffle.specs.Entry.{whole_order, answered, shuffle};
 
-use crate::filling::fill;
+use crate::start::begin;
 use crate::steps::draw_order;
 use refusals::{Refusal, check_long_list, check_room};
-use tree::{Node, Tree, tree_size};
+use tree::{Node, tree_size};
 use words::WordSource;
 
 /// An order, which stands in the lent buffer: how many words were read.
@@ -106,8 +106,7 @@ fn draw_in<W: WordSource>(
     ensures order { (option_map (λ _. drawn.new) result, W.words words.new) ≡ order weights.now (W.words words.old) }
     ensures cleared { OnSome result (nodes.new ≡ replicate (tree_size (length weights.now)) zero_node) }
 {
-    let mut tree = Tree::new(nodes, weights.len());
-    fill(weights, &mut tree, drawn);
+    let mut tree = begin(weights, nodes, drawn);
     draw_order(words, &mut tree, drawn)
 }
 

@@ -1,4 +1,4 @@
-ghost use Rattle.std.specs.Prelude.{◌≡◌, ◌+◌, ◌≤◌, ◌<◌, length, get_or, take, replicate, OnSome};
+ghost use Rattle.std.specs.Prelude.{◌≡◌, ◌+◌, ◌≤◌, ◌<◌, length, take, replicate, OnSome};
 ghost use Rattle.std.specs.Option.{option_map};
 ghost use Rattle.tree.specs.Sizes.{tree_size};
 ghost use Rattle.tree.specs.Tree.{zero_node};
@@ -10,14 +10,15 @@ use draws::draw_below;
 use tree::Tree;
 use words::WordSource;
 
-// One step, to place i: a position in proportion to its weight while weight is left, and then one of the zeros, which stand at the end.
-// The last zero, which stands first, and the one drawn change places.
-fn step<W: WordSource>(words: &mut W, tree: &mut Tree, drawn: &mut [u64], i: usize) -> Option<()>
+// One step, to place i, yields a position, and the next state: what is left in the tree and among the zeros at the end of `drawn`. While
+// weight is left, the position comes in proportion to its weight. Then it is one of the zeros, and the last of them, which stands first,
+// moves into the gap. `drawn.swap(..)` in its place took 6 to 12 % more time.
+fn step<W: WordSource>(words: &mut W, tree: &mut Tree, drawn: &mut [u64], i: usize) -> Option<u64>
     requires holds { Holds tree.old (weights_of tree.old) }
     requires room { length drawn.old ≡ tree.old.count }
     requires some { i < tree.old.count }
     requires left { i + heavy (weights_of tree.old) ≤ tree.old.count }
-    ensures stepped { (option_map (λ _. step_to i (weights_of tree.new) drawn.new) result, W.words words.new)
+    ensures stepped { (option_map (λ p. step_to i p (weights_of tree.new) drawn.new) result, W.words words.new)
         ≡ step (left_of i (weights_of tree.old) drawn.old) (W.words words.old) }
     ensures holds { Holds tree.new (weights_of tree.new) }
     ensures left { OnSome result (i + 1 + heavy (weights_of tree.new) ≤ tree.old.count) }
@@ -26,16 +27,15 @@ fn step<W: WordSource>(words: &mut W, tree: &mut Tree, drawn: &mut [u64], i: usi
 {
     if tree.total > 0 {
         let v = draw_below(words, tree.total)?;
-        drawn[i] = tree.take(v) as u64;
-    } else {
-        let n = drawn.len();
-        let v = draw_below(words, (n - i) as u64)?;
-        let j = n - 1 - v as usize;
-        let item = drawn[i];
-        drawn[i] = drawn[j];
-        drawn[j] = item;
+        let position = tree.take(v);
+        return Some(position as u64);
     }
-    Some(())
+    let n = drawn.len();
+    let v = draw_below(words, (n - i) as u64)?;
+    let j = n - 1 - v as usize;
+    let position = drawn[j];
+    drawn[j] = drawn[i];
+    Some(position)
 }
 
 /// Draws all positions; `None` where the words run out. After the last, every sum in the tree is 0.
@@ -48,7 +48,7 @@ pub fn draw_order<W: WordSource>(words: &mut W, tree: &mut Tree, drawn: &mut [u6
     ensures same { SameTree tree.old tree.new }
 {
     for i in 0..drawn.len() {
-        step(words, tree, drawn, i)?;
+        drawn[i] = step(words, tree, drawn, i)?;
     }
     Some(())
 }
