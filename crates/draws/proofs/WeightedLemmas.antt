@@ -1,9 +1,11 @@
 -- The place that a value chooses among weights, and its remainder.
-use Rattle.std.proofs.Common.{◌≡◌, ℕ, zero, suc, ◌+◌, ◌-◌, ◌<◌, ◌≤◌, Bool, true, false, if◌then◌else◌, List, [], ◌∷◌, length, take, sum, refl, ap, arith, ltb-true, ltb-false, lt-ltb, le-ltb}
+use Rattle.std.proofs.Common.{◌≡◌, ℕ, zero, suc, ◌+◌, ◌-◌, ◌<◌, ◌≤◌, Bool, true, false, if◌then◌else◌, List, [], ◌∷◌, ◌++◌, length, take, sum, refl, ap, arith, ltb-true, ltb-false, lt-ltb, le-ltb}
 use Rattle.std.specs.Prelude.{slice_index, nat_lt}
 use Rattle.std.proofs.lemmas.List.Sums.{sum_by-cons}
 use Rattle.draws.specs.declared.weighted.Place.{Place}
-use Rattle.draws.specs.Weighted.{chosen, remainder, place_of, Placed, HasWeight}
+use Rattle.laws.specs.Sums.{running_from}
+use Rattle.draws.specs.Laws.{first_above, PlacesGiveBack, ValuesChooseInParts, ChosenIsFirstAbove}
+use Rattle.draws.specs.Weighted.{chosen, place_of, Placed, HasWeight}
 
 -- the weights before the place sum to no more than the value, and with the weight there to more
 pub record IsChosen (weights : List ℕ) (v at : ℕ) : Type 0 where
@@ -40,14 +42,11 @@ chosen_at (w ∷ weights) v (suc at) is =
       below_weight = omega (arith, is.below_weight, is.reached, one_more);
     })))
 
-module _ (weights : List ℕ) (v : ℕ) (low : v < sum weights) where
-  -- the remainder is below the weight at the place
-  pub chosen_placed : Placed weights (place_of weights v)
-  chosen_placed = let there = chosen_is weights v low in record { within = there.within; below_weight = there.below_weight }
+pub chosen_placed : (weights : List ℕ) (v : ℕ) → v < sum weights → Placed weights (place_of weights v)
+chosen_placed weights v low = let there = chosen_is weights v low in record { within = there.within; below_weight = there.below_weight }
 
-  -- place and remainder give the value back
-  pub value_back : sum (take (chosen weights v) weights) + remainder weights v ≡ v
-  value_back = omega (arith, (chosen_is weights v low).reached)
+pub gives_back : PlacesGiveBack
+gives_back weights v low = record { placed = chosen_placed weights v low; value_back = omega (arith, (chosen_is weights v low).reached) }
 
 -- a place with a remainder has weight
 pub placed_has_weight : (weights : List ℕ) (p : Place) → Placed weights p → HasWeight weights p.at
@@ -63,3 +62,41 @@ walked_to weights v p so_far here =
     let rest : v - sum (take p.at weights) ≡ p.remainder = omega (arith, so_far.taken) in
     let there : chosen weights v ≡ p.at = chosen_at weights v p.at (record { within = so_far.within; reached = omega (arith, so_far.taken); below_weight = omega (arith, rest, here) }) in
     rw (there, rest) refl
+
+-- past the first weights, a value chooses among the others
+chosen_past : (xs ys : List ℕ) (v : ℕ) → chosen (xs ++ ys) (sum xs + v) ≡ length xs + chosen ys v
+chosen_past [] ys v = let same : 0 + v ≡ v = omega arith in rw same (omega arith)
+chosen_past (x ∷ xs) ys v =
+    let one_more = sum_by-cons (λ n. n) x xs in
+    let past : x ≤ sum (x ∷ xs) + v = omega (arith, one_more) in
+    let rest : sum (x ∷ xs) + v - x ≡ sum xs + v = omega (arith, one_more) in
+    rw (le-ltb (sum (x ∷ xs) + v) x past, rest) (omega (arith, chosen_past xs ys v))
+
+-- below their sum, among these
+chosen_before : (xs ys : List ℕ) (v : ℕ) → v < sum xs → chosen (xs ++ ys) v ≡ chosen xs v
+chosen_before [] ys v low = absurd (omega arith)
+chosen_before (x ∷ xs) ys v low = go (nat_lt v x) refl (chosen_before xs ys (v - x))
+  where
+    go : (b : Bool) → nat_lt v x ≡ b → (v - x < sum xs → chosen (xs ++ ys) (v - x) ≡ chosen xs (v - x)) →
+        ◌≡◌ {A = ℕ} (if b then 0 else suc (chosen (xs ++ ys) (v - x))) (if b then 0 else suc (chosen xs (v - x)))
+    go true here rest = refl
+    go false past rest = ap suc (rest (omega (arith, low, ltb-false v x past, sum_by-cons (λ n. n) x xs)))
+
+pub in_parts : ValuesChooseInParts
+in_parts xs ys v = record { before = chosen_before xs ys v; past = chosen_past xs ys v }
+
+-- the smallest place whose running sum exceeds v, where `before` is the sum of all that stands before
+first_above_from : (before : ℕ) (weights : List ℕ) (v : ℕ) → before ≤ v → chosen weights (v - before) ≡ first_above (running_from before weights) v
+first_above_from before [] v from = refl
+first_above_from before (w ∷ weights) v from = go (nat_lt v (before + w)) refl (first_above_from (before + w) weights v)
+  where
+    go : (b : Bool) → nat_lt v (before + w) ≡ b → (before + w ≤ v → chosen weights (v - (before + w)) ≡ first_above (running_from (before + w) weights) v) →
+        chosen (w ∷ weights) (v - before) ≡ (if b then 0 else suc (first_above (running_from (before + w) weights) v))
+    go true here rest = rw (lt-ltb (v - before) w (omega (arith, from, ltb-true v (before + w) here)))
+    go false past rest =
+        let least = ltb-false v (before + w) past in
+        let same : v - before - w ≡ v - (before + w) = omega arith in
+        rw (le-ltb (v - before) w (omega (arith, least)), same) (ap suc (rest least))
+
+pub chosen_first_above : ChosenIsFirstAbove
+chosen_first_above weights v = let same : v - 0 ≡ v = omega arith in rw same at (first_above_from 0 weights v (omega arith))

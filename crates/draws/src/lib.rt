@@ -3,6 +3,7 @@
 
 mod below;
 mod fraction;
+pub mod promises;
 mod shuffle;
 mod weighted;
 

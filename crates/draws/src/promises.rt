@@ -1,0 +1,67 @@
+ghost use Rattle.draws.specs.Fairness.{BelowFair, FractionFair, WeightedFair, WeightedFairWhere, ShuffleFair};
+ghost use Rattle.draws.specs.Laws.{BelowLow, ChosenIsFirstAbove, PlacesGiveBack, ValuesChooseInParts, WeightedPlaced, ShufflePermutes, ShuffledByDraws, DrawsReadOnly};
+
+/// Each value below m is drawn for equally many words.
+pub fn below_is_fair()
+    ensures { BelowFair }
+{}
+
+/// A value that is drawn below m is below m.
+pub fn below_is_low()
+    ensures { BelowLow }
+{}
+
+/// Each multiple of 2^-53 below 1 is drawn for equally many words.
+pub fn fractions_are_fair()
+    ensures { FractionFair }
+{}
+
+/// Each place is drawn for as many values as its weight counts.
+pub fn weighted_draws_are_fair()
+    ensures { WeightedFair }
+{}
+
+/// The places that pass a test are drawn for as many values as their weights count.
+pub fn weighted_draws_are_fair_where()
+    ensures { WeightedFairWhere }
+{}
+
+/// A value chooses the smallest place whose running sum exceeds it.
+pub fn chosen_is_first_above()
+    ensures { ChosenIsFirstAbove }
+{}
+
+/// A place and its remainder give the value back.
+pub fn places_give_back()
+    ensures { PlacesGiveBack }
+{}
+
+/// A value below the sum of the first weights chooses among these, and one past it among the others.
+pub fn values_choose_in_parts()
+    ensures { ValuesChooseInParts }
+{}
+
+/// A weighted draw gives a place with weight.
+pub fn weighted_draws_are_placed()
+    ensures { WeightedPlaced }
+{}
+
+/// A shuffle permutes its items.
+pub fn shuffles_permute()
+    ensures { ShufflePermutes }
+{}
+
+/// Each order comes from a list of draws, one for each place but the first.
+pub fn shuffles_go_by_draws()
+    ensures { ShuffledByDraws }
+{}
+
+/// Two different lists of draws give two different orders of distinct items.
+pub fn shuffles_are_fair()
+    ensures { ShuffleFair }
+{}
+
+/// No draw leaves more words than there were.
+pub fn draws_read_only()
+    ensures { DrawsReadOnly }
+{}
