@@ -2,7 +2,10 @@
 use Rattle.std.proofs.Common.{◌≡◌, ℕ, zero, suc, ◌+◌, ◌-◌, ◌≤◌, ◌<◌, List, [], ◌∷◌, length, take, get_or, set, sum, refl, ap, arith, lt-ltb, le-ltb}
 use Rattle.std.proofs.lemmas.List.Sums.{sum_by-cons, sum_by_more_le}
 use Rattle.draws.specs.Weighted.{chosen}
+use Rattle.tree.specs.declared.node.Field.{Field}
+use Rattle.tree.specs.Node.{field_of, Falls}
 use Rattle.tree.specs.Tree.{before}
+use Rattle.tree.proofs.NodeLemmas.{next_sum}
 
 pub before-mono : (ws : List ℕ) (a b : ℕ) → a ≤ b → before ws a ≤ before ws b
 before-mono [] zero zero h = omega arith
@@ -52,3 +55,12 @@ place_is (w ∷ ws) v (suc p) within low high =
     let here = sum_by-cons (λ x. x) w (take p ws) in
     let next = sum_by-cons (λ x. x) w (take (suc p) ws) in
     rw (le-ltb v w (omega arith)) (ap suc (place_is ws (v - w) p (omega arith) (omega arith) (omega arith)))
+
+-- a value falls at the place that it chooses
+pub falls_is : (sums : List ℕ) (v : ℕ) (field : Field) → length sums ≡ 16 → Falls sums v field → field ≡ field_of sums v
+falls_is sums v field full falls =
+    let next = next_sum sums field.offset (suc field.offset) (omega (arith, falls.within)) (omega arith) in
+    let place : chosen sums v ≡ field.offset =
+    place_is sums v field.offset (omega (arith, falls.within)) (omega (arith, falls.back)) (omega (arith, falls.back, falls.low, falls.weight, next)) in
+    let left : v - sum (take field.offset sums) ≡ field.val = omega (arith, falls.back) in
+    rw (place, left, ← falls.weight) refl

@@ -5,7 +5,7 @@ ghost use Rattle.tree.specs.Holds.{weights_of, found, Holds, IsTreeOf, SameTree}
 
 use crate::index::{child, offset, parent};
 use crate::node::Node;
-use crate::sizes::first_leaf;
+use crate::sizes::get_num_nodes_and_tree_size;
 
 /// A tree of the sums of weights, over lent nodes.
 #[derive(Debug, Drop)]
@@ -35,7 +35,7 @@ impl<'a> Tree<'a> {
         nodes.fill(Node { sums: [0; 16] });
         Tree {
             nodes,
-            first_leaf: first_leaf(count),
+            first_leaf: get_num_nodes_and_tree_size(count).num_nodes,
             count,
             total: 0,
         }
