@@ -16,7 +16,8 @@ use Rattle.weighted_shuffle.proofs.FillLemmas.{length-counted}
 use Rattle.shuffle_laws.specs.Orders.{IsOrder}
 use Rattle.shuffle_laws.specs.Laws.{ZerosLast, OrdersWhole}
 use Rattle.shuffle_laws.proofs.IdLemmas.{order_long, order_count}
-use Rattle.shuffle_laws.proofs.LawLemmas.{went, below-lt, by_weight}
+use Rattle.draws.proofs.DrawLemmas.{went, below_low}
+use Rattle.shuffle_laws.proofs.LawLemmas.{by_weight}
 
 -- the positions that have weight, where the list starts at position k
 abbrev heavy : ℕ → List ℕ → List ℕ
@@ -65,7 +66,7 @@ module _ (left : Left) (ws : List ℕ) (s : Step) (e : (step left ws).0 ≡ Some
   by_zero : sum left.weights ≡ 0 → 0 < length left.zeros → ByZero
   by_zero h z =
       let g = went (below (length left.zeros) ws) (λ i rest. (Some (take_zero left i), rest)) s (rw (le-ltb 0 (sum left.weights) (omega arith)) at e) in
-      record { index = g.value; is = (let q = g.second in cc); index_lt = below-lt (length left.zeros) ws g.value z g.first }
+      record { index = g.value; is = (let q = g.second in cc); index_lt = below_low (length left.zeros) g.value ws z g.first }
 
   -- what is left before it is the position and what is left after it
   step_moves : 0 < length (positions left) → IsPermutation (positions left) (s.position ∷ positions s.rest)

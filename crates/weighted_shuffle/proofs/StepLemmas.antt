@@ -8,7 +8,7 @@ use Rattle.std.proofs.lemmas.List.Sums.{sum_by-cons}
 use Rattle.words.specs.Draw.{and_then}
 use Rattle.draws.specs.Below.{below}
 use Rattle.draws.specs.Weighted.{chosen}
-use Rattle.draws.proofs.SumsLemmas.{chosen-placed}
+use Rattle.draws.proofs.WeightedLemmas.{chosen_placed}
 use Rattle.tree.specs.declared.tree.Tree.{Tree}
 use Rattle.tree.specs.Sizes.{tree_size}
 use Rattle.tree.specs.Tree.{zero_node}
@@ -100,7 +100,7 @@ end_fewer (suc z) n places = ap (λ (xs : List ℕ). get_or places (n - 1) 0 ∷
 module _ (i v p total : ℕ) (ws ws' drawn words left : List ℕ) (room : length drawn ≡ length ws) (within : i < length ws) (total_is : total ≡ sum ws) (some : 0 < total) (heavies : i + heavy ws ≤ length ws)
     (draw : ◌≡◌ {A = Option ℕ × List ℕ} (Some v, left) (below total words)) (low : v < total) (place : p ≡ chosen ws v) (taken : ws' ≡ set ws p 0) where
   pub weight_step-left : suc (heavy ws') ≡ heavy ws
-  weight_step-left = let placed = chosen-placed ws v (omega (arith, total_is)) in rw (taken, place) (heavy-taken ws (chosen ws v) (omega (arith, placed.below_weight)))
+  weight_step-left = let placed = chosen_placed ws v (omega (arith, total_is)) in rw (taken, place) (heavy-taken ws (chosen ws v) (omega (arith, placed.below_weight)))
 
   pub weight_step : ◌≡◌ {A = Option Step × List ℕ} (Some (step_to i p ws' drawn), left) (step (left_of i ws drawn) words)
   weight_step =
