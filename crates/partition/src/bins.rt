@@ -1,12 +1,13 @@
-ghost use Rattle.std.specs.Prelude.{◌≡◌, ◌+◌, ◌≤◌, length, sum};
+ghost use Rattle.std.specs.Prelude.{◌≡◌, ◌+◌, IsPermutation, length, sum};
 ghost use Rattle.std.specs.Option.{option_map};
-ghost use Rattle.partition.specs.Partition.{ids_from, held_of, over_bins, placed, Fillable};
+ghost use Rattle.laws.specs.Orders.{ids_from};
+ghost use Rattle.draws.specs.Shuffle.{shuffle};
+ghost use Rattle.partition.specs.Partition.{held_of, over_bins, placed, Fillable};
 ghost use Rattle.fill.specs.Columns.{HaveRoom, SameLoans};
 
 use crate::checks::Bins;
 use draws::shuffle_list;
-use fill::{draw_values, fill_and_choose};
-use fill::Columns;
+use fill::{Columns, draw_values, fill_and_choose};
 use words::WordSource;
 
 // The ids from 0 on.
@@ -16,6 +17,15 @@ fn count_up(order: &mut [u64])
     for i in 0..order.len() {
         order[i] = i as u64;
     }
+}
+
+// The ids from 0 on, shuffled.
+fn shuffle_ids<W: WordSource>(words: &mut W, order: &mut [u64]) -> Option<()>
+    ensures shuffled { (result, order.new, W.words words.new) ≡ shuffle (ids_from 0 (length order.old)) (W.words words.old) }
+    ensures permutation { IsPermutation (ids_from 0 (length order.old)) order.new }
+{
+    count_up(order);
+    shuffle_list(words, order)
 }
 
 /// One seat from each of the bins: the weights are shuffled by the first words, the seats are drawn by the second, and then the pieces
@@ -38,8 +48,7 @@ pub fn draw_bins<A: WordSource, B: WordSource>(
         (over_bins weights.now bins.capacity bins.number (A.words first.old) (B.words second.old)) }
     ensures same { SameLoans columns.old columns.new }
 {
-    count_up(order);
-    shuffle_list(first, order)?;
+    shuffle_ids(first, order)?;
     draw_values(second, bins.capacity, bins.sum, seats)?;
     Some(fill_and_choose(weights, order, bins.capacity, columns, seats))
 }

@@ -1,5 +1,5 @@
 ghost use Rattle.std.specs.Prelude.{◌≡◌, ◌+◌, ◌≤◌, length, sum};
-ghost use Rattle.partition.specs.Partition.{held_of, over_bins, Fillable};
+ghost use Rattle.partition.specs.Partition.{held_of, over_bins, or_no_word, Fillable};
 ghost use Rattle.partition.specs.Calls.{told, sample_quorum};
 ghost use Rattle.fill.specs.Columns.{HaveRoom, SameLoans};
 
@@ -20,25 +20,44 @@ pub struct Partition {
 /// A sampler that partitions the stakes into bins, and picks one validator from each.
 #[derive(Clone, Copy, Debug, PartialEq, Eq)]
 pub struct PartitionSampler {
-    pub num_bins: usize,
+    num_bins: usize,
 }
 
 impl PartitionSampler {
-    /// One seat from each bin. The list is shuffled by the first words, and the seats are drawn by the second. What is lent keeps what it
-    /// held where the call is turned down.
-    pub fn sample_quorum<A: WordSource, B: WordSource>(
-        &self,
+    /// A sampler with so many bins.
+    pub fn new(num_bins: usize) -> Self
+        ensures { result ≡ record { num_bins = num_bins } }
+    {
+        Self { num_bins }
+    }
+
+    /// How many seats a call fills: the number of bins.
+    pub fn quorum_size(self) -> usize
+        ensures { result ≡ self.num_bins }
+    {
+        self.num_bins
+    }
+
+    /// One seat from each bin. The list is shuffled by the first words, and the seats are drawn by the second. The seats, and the pieces in
+    /// fill order, are written to the front of what is lent; it keeps what it held where the call is turned down.
+    ///
+    /// # Errors
+    ///
+    /// The first that applies: the list is empty or too long, there are too many bins, the seats or a column are too short for `n` stakes in
+    /// `b` bins (`b` seats, `n + b` pieces), the stakes sum past 64 bits or to 0, a bin would be empty, a word is missing.
+    pub fn sample_quorum<A: WordSource + Drop, B: WordSource + Drop>(
+        self,
         stakes: &[u64],
-        first: &mut A,
-        second: &mut B,
+        first: A,
+        second: B,
         seats: &mut [u64],
         columns: &mut Columns,
     ) -> Result<Partition, Refusal>
-        ensures sampled { (result, (seats.new, held_of columns.new), A.words first.new, B.words second.new)
-            ≡ sample_quorum self.now.num_bins stakes.now (seats.old, held_of columns.old)
-            (A.words first.old) (B.words second.old) }
+        ensures sampled { (result, (seats.new, held_of columns.new))
+            ≡ sample_quorum self stakes.now (seats.old, held_of columns.old) (A.words first) (B.words second) }
         ensures same { SameLoans columns.old columns.new }
     {
+        let (mut first, mut second) = (first, second);
         let (n, b) = (stakes.len(), self.num_bins);
         check_list_length(n)?;
         check_size(b)?;
@@ -54,11 +73,11 @@ impl PartitionSampler {
         }
         let bins = check_bins(sum, b)?;
         if n <= 64 && b <= 64 {
-            in_scratch::<A, B, 64, 64>(stakes, bins, first, second, seats, columns)
+            in_scratch::<A, B, 64, 64>(stakes, bins, &mut first, &mut second, seats, columns)
         } else if n <= 1024 {
-            in_scratch::<A, B, 1024, 1024>(stakes, bins, first, second, seats, columns)
+            in_scratch::<A, B, 1024, 1024>(stakes, bins, &mut first, &mut second, seats, columns)
         } else {
-            in_scratch::<A, B, 4096, 1024>(stakes, bins, first, second, seats, columns)
+            in_scratch::<A, B, 4096, 1024>(stakes, bins, &mut first, &mut second, seats, columns)
         }
     }
 }
@@ -78,9 +97,9 @@ fn in_scratch<A: WordSource, B: WordSource, const N: usize, const K: usize>(
     requires fillable { Fillable (sum stakes.now) bins }
     requires seats { bins.number ≤ length seats.old }
     requires room { HaveRoom columns.old (length stakes.now + bins.number) }
-    ensures told { (result, (seats.new, held_of columns.new), A.words first.new, B.words second.new)
+    ensures told { (result, (seats.new, held_of columns.new))
         ≡ told (seats.old, held_of columns.old) (A.words first.old) (B.words second.old)
-        (over_bins stakes.now bins.capacity bins.number (A.words first.old) (B.words second.old)) }
+        (or_no_word (over_bins stakes.now bins.capacity bins.number (A.words first.old) (B.words second.old))) }
     ensures same { SameLoans columns.old columns.new }
 {
     let mut order = [0; N];
@@ -106,8 +125,6 @@ mod tests {
 
     #[test]
     fn bins_are_filled_in_the_shuffled_order(rt: HostRuntime) {
-        let mut first = ListWords::new(&[0, 2], 0);
-        let mut second = ListWords::new(&[2, 1, 9], 0);
         let mut seats = [7; 3];
         let mut bins = [7; 6];
         let mut validators = [7; 6];
@@ -117,11 +134,10 @@ mod tests {
             validators: &mut validators,
             stakes: &mut stakes,
         };
-        let sampler = PartitionSampler { num_bins: 2 };
-        let answer = sampler.sample_quorum(
+        let answer = PartitionSampler::new(2).sample_quorum(
             &[3, 1, 2],
-            &mut first,
-            &mut second,
+            ListWords::new(&[0, 2], 0),
+            ListWords::new(&[2, 1, 9], 0),
             &mut seats,
             &mut columns,
         );
