@@ -1,9 +1,9 @@
 -- "Partition of total S into b bins", and one seat from each.
-use Rattle.std.specs.Prelude.{◌≡◌, ℕ, ◌+◌, ◌-◌, ◌*◌, ◌≤◌, ◌<◌, ◌&&◌, if◌then◌else◌, Option, Some, None, Result, Ok, Err, List, [], ◌∷◌, length, sum, nat_le, ◌==◌}
+use Rattle.std.specs.Prelude.{◌≡◌, ℕ, ◌+◌, ◌-◌, ◌*◌, ◌≤◌, ◌<◌, if◌then◌else◌, Option, Some, None, Result, Ok, Err, List, [], ◌∷◌, length, sum, ◌==◌}
 use Rattle.std.specs.Int.{div_ceil}
 use Rattle.laws.specs.Orders.{ids_from}
 use Rattle.refusals.specs.declared.refusal.Refusal.{Refusal}
-use Rattle.refusals.specs.declared.refusal.Refusal.TheVariants.{EmptyBin, NoWordLeft}
+use Rattle.refusals.specs.declared.refusal.Refusal.TheVariants.{NoWordLeft}
 use Rattle.refusals.specs.Refusal.{Check, short_buffer}
 use Rattle.words.specs.Draw.{after}
 use Rattle.draws.specs.declared.weighted.Place.{Place}
@@ -23,10 +23,6 @@ capacity S b = div_ceil S b
 -- "n + b pieces, none for b = 0"
 abbrev pub most_pieces : ℕ → ℕ → ℕ
 most_pieces n b = (if b == 0 then 0 else (n + b))
-
--- "a bin would be empty: b at least 1 and (b − 1) × ceil(S / b) ≥ S"
-abbrev pub empty_bin : ℕ → ℕ → ℕ → Check
-empty_bin capacity S b = (nat_le 1 b && nat_le S ((b - 1) * capacity), EmptyBin)
 
 -- the seats drawn, one from each bin, and the pieces in fill order
 pub record Parted : Type 0 where

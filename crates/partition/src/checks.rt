@@ -1,8 +1,7 @@
-ghost use Rattle.std.specs.Prelude.{◌≡◌, ◌≤◌, ◌<◌, [], ◌∷◌, length, sum, Ok, IfOk};
-ghost use Rattle.refusals.specs.Refusal.{first_of, sum_checks, unless};
-ghost use Rattle.partition.specs.Partition.{held_of, short_pieces, most_pieces, empty_bin, capacity, Fillable};
+ghost use Rattle.std.specs.Prelude.{◌≡◌, ◌≤◌, ◌<◌, [], ◌∷◌, length, Ok, IfOk};
+ghost use Rattle.refusals.specs.Refusal.{first_of, empty_bin, unless};
+ghost use Rattle.partition.specs.Partition.{held_of, short_pieces, most_pieces, capacity, Fillable};
 
-use crate::total::total;
 use fill::Columns;
 use refusals::{Refusal, check_room};
 
@@ -24,17 +23,6 @@ pub fn check_columns(columns: &Columns, n: usize, bins: usize) -> Result<(), Ref
     check_room(columns.bins.len(), most)?;
     check_room(columns.validators.len(), most)?;
     check_room(columns.stakes.len(), most)
-}
-
-/// The sum of the stakes, if it fits 64 bits and is not 0.
-pub fn check_sum(stakes: &[u64]) -> Result<u64, Refusal>
-    ensures { result ≡ unless (first_of (sum_checks stakes.now)) (Ok (sum stakes.now)) }
-{
-    let sum = total(stakes).ok_or(Refusal::SumPast)?;
-    if sum == 0 {
-        return Err(Refusal::TotalZero);
-    }
-    Ok(sum)
 }
 
 /// Bins for a sum, of which none would be empty.

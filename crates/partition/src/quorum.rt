@@ -4,9 +4,9 @@ ghost use Rattle.partition.specs.Calls.{told, sample_quorum};
 ghost use Rattle.fill.specs.Columns.{HaveRoom, SameLoans};
 
 use crate::bins::draw_bins;
-use crate::checks::{Bins, check_bins, check_columns, check_sum};
+use crate::checks::{Bins, check_bins, check_columns};
 use fill::Columns;
-use refusals::{Refusal, check_list_length, check_room, check_size};
+use refusals::{Refusal, check_list_length, check_room, check_size, check_sum};
 use words::WordSource;
 
 /// What stands in the lent seats and columns: how many pieces, and how many words of each source were read.
