@@ -1,7 +1,8 @@
 -- A call of the shuffle.
-use Rattle.std.specs.Prelude.{ℕ, ◌-◌, Result, Ok, Err, List, [], ◌∷◌, ◌++◌, length, drop, replicate}
+use Rattle.std.specs.Prelude.{ℕ, Result, Ok, Err, List, [], ◌∷◌, ◌++◌, length, drop, replicate}
 use Rattle.refusals.specs.declared.refusal.Refusal.{Refusal}
 use Rattle.refusals.specs.Refusal.{Check, first_of, long_list, short_buffer}
+use Rattle.words.specs.Draw.{words_read}
 use Rattle.draws.specs.Call.{after_checks, or_no_word}
 use Rattle.tree.specs.declared.node.Node.{Node}
 use Rattle.tree.specs.Sizes.{tree_size}
@@ -30,7 +31,7 @@ nodes_after size held = replicate size zero_node ++ drop size held
 abbrev pub answered : List ℕ → List ℕ → List Node → List ℕ → Result (List ℕ) Refusal × List ℕ → Result Order Refusal × List ℕ × List Node × List ℕ
 answered weights held nodes ws (Err refusal, left) = (Err refusal, held, nodes, left)
 answered weights held nodes ws (Ok ps, left) =
-    (Ok (record { words_read = length ws - length left }), ps ++ drop (length ps) held, nodes_after (tree_size (length weights)) nodes, left)
+    (Ok (record { words_read = words_read ws left }), ps ++ drop (length ps) held, nodes_after (tree_size (length weights)) nodes, left)
 
 abbrev pub without_words : {A B C : Type 0} → A × B × C × List ℕ → A × B × C
 without_words (a, b, c, left) = (a, b, c)

@@ -8,7 +8,7 @@ ghost use Rattle.weighted_shuffle.specs.Entry.{whole_order, answered, shuffle};
 use crate::start::begin;
 use crate::steps::draw_order;
 use refusals::{Refusal, check_long_list, check_room};
-use tree::{Node, tree_size};
+use tree::{Node, get_num_nodes_and_tree_size};
 use words::WordSource;
 
 /// An order, which stands in the lent buffer: how many words were read.
@@ -31,7 +31,7 @@ pub fn shuffle<W: WordSource + Drop>(
     let n = weights.len();
     check_long_list(n)?;
     check_room(order.len(), n)?;
-    check_room(nodes.len(), tree_size(n))?;
+    check_room(nodes.len(), get_num_nodes_and_tree_size(n).tree_size)?;
     shuffle_into(weights, &mut words, order, nodes)
 }
 
@@ -75,7 +75,7 @@ fn in_scratch<W: WordSource, const N: usize, const M: usize>(
         ≡ answered weights.now order.old nodes.old (W.words words.old) (whole_order weights.now (W.words words.old)) }
 {
     let n = weights.len();
-    let size = tree_size(n);
+    let size = get_num_nodes_and_tree_size(n).tree_size;
     let mut drawn = [0; N];
     let mut kept = [Node { sums: [0; 16] }; M];
     let drawn = &mut drawn[..n];
