@@ -1,12 +1,11 @@
 -- From an order that was drawn to the view of it.
-use Rattle.std.proofs.Common.{◌≡◌, ℕ, zero, suc, ◌-◌, Option, Some, None, Result, Ok, Err, List, [], ◌∷◌, ◌++◌, length, take, drop, replicate, refl, ap, take_at}
+use Rattle.std.proofs.Common.{◌≡◌, ℕ, zero, suc, ◌-◌, Option, Some, None, Result, Ok, Err, List, [], ◌∷◌, ◌++◌, length, take, drop, refl, ap, take_at}
 use Rattle.refusals.specs.declared.refusal.Refusal.{Refusal}
 use Rattle.refusals.specs.declared.refusal.Refusal.TheVariants.{NoWordLeft}
 use Rattle.words.specs.Draw.{and_then}
 use Rattle.draws.specs.Call.{or_no_word}
 use Rattle.tree.specs.declared.node.Node.{Node}
 use Rattle.tree.specs.Sizes.{tree_size}
-use Rattle.tree.specs.Tree.{zero_node}
 use Rattle.weighted_shuffle.specs.declared.entry.Order.{Order}
 use Rattle.weighted_shuffle.specs.Order.{Left, Step, step, steps, whole, order}
 use Rattle.weighted_shuffle.specs.Entry as shuffle
@@ -53,7 +52,7 @@ module _ (stakes : List ℕ) (fanout own : ℕ) (held : List ℕ) (nodes : List 
       go (Some ps, rest) long e =
           let answer : ◌≡◌ {A = Result Order Refusal} (Ok o) (Ok (record { words_read = length ws - length rest })) = ap (λ (r : Drawn). r.0) e in
           let held_is : held' ≡ ps ++ drop (length ps) held = ap (λ (r : Drawn). r.1) e in
-          let nodes_is : nodes' ≡ replicate (tree_size (length stakes)) zero_node ++ drop (tree_size (length stakes)) nodes = ap (λ (r : Drawn). r.2) e in
+          let nodes_is : nodes' ≡ shuffle.nodes_after (tree_size (length stakes)) nodes = ap (λ (r : Drawn). r.2) e in
           let front : take (length stakes) held' ≡ ps = rw held_is (take_at ps (drop (length ps) held) (length stakes) (long ps refl)) in
           let read : o.words_read ≡ length ws - length rest = cc in
           rw (rw front at t, rw front at k, held_is, nodes_is, read)

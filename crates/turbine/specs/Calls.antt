@@ -1,13 +1,13 @@
 -- What a call of `TurbineTree::new` gives: the first refusal that applies, else the view.
-use Rattle.std.specs.Prelude.{ℕ, ◌-◌, min, Option, Some, Result, Ok, Err, List, [], ◌∷◌, ◌++◌, length, drop, replicate}
+use Rattle.std.specs.Prelude.{ℕ, ◌-◌, min, Option, Some, Result, Ok, Err, List, [], ◌∷◌, ◌++◌, length, drop}
 use Rattle.refusals.specs.declared.refusal.Refusal.{Refusal}
 use Rattle.refusals.specs.Refusal.{Check, first_of, list_length, fanout_limit, not_below, short_buffer}
 use Rattle.words.specs.Draw.{and_then}
 use Rattle.draws.specs.Call.{after_checks, or_no_word}
 use Rattle.tree.specs.declared.node.Node.{Node}
 use Rattle.tree.specs.Sizes.{tree_size}
-use Rattle.tree.specs.Tree.{zero_node}
 use Rattle.weighted_shuffle.specs.Order.{order}
+use Rattle.weighted_shuffle.specs.Entry.{nodes_after}
 use Rattle.turbine.specs.declared.turbine_tree.TurbineTree.{TurbineTree}
 use Rattle.turbine.specs.declared.turbine_tree.View.{View}
 use Rattle.turbine.specs.View.{Neighborhood, neighborhood}
@@ -48,7 +48,7 @@ answered n (held, nodes, kept) ws (Err refusal, left) = (Err refusal, held, node
 answered n (held, nodes, kept) ws (Ok v, left) = (
   Ok (record { tree = tree_of v; words_read = length ws - length left }),
   written v.order held,
-  replicate (tree_size n) zero_node ++ drop (tree_size n) nodes,
+  nodes_after (tree_size n) nodes,
   written v.children kept,
 )
 
