@@ -4,7 +4,7 @@ ghost use Rattle.turbine.specs.Calls.{tree_of, written, turbine_tree};
 
 use crate::neighborhood::{parent_at, position_of, write_children};
 use refusals::{Refusal, check_below, check_fanout, check_list_length, check_room};
-use tree::{Node, tree_size};
+use tree::{Node, get_num_nodes_and_tree_size};
 use types::ValidatorIndex;
 use weighted_shuffle::shuffle_into;
 use words::WordSource;
@@ -56,7 +56,7 @@ impl TurbineTree {
         check_fanout(fanout)?;
         check_below(own_id.inner(), n)?;
         check_room(order.len(), n)?;
-        check_room(nodes.len(), tree_size(n))?;
+        check_room(nodes.len(), get_num_nodes_and_tree_size(n).tree_size)?;
         check_room(children.len(), fanout.min(n))?;
         let words_read = shuffle_into(stakes, &mut words, order, nodes)?.words_read;
         let tree = TurbineTree::of_order(&order[..n], fanout, own_id, children);
@@ -80,29 +80,29 @@ impl TurbineTree {
     }
 
     /// Gives the root validator of this Turbine tree.
-    pub fn get_root(self) -> ValidatorIndex
-        ensures { result ≡ self.root }
+    pub fn get_root(&self) -> ValidatorIndex
+        ensures { result ≡ self.now.root }
     {
         self.root
     }
 
     /// Gives the parent of this validator in the Turbine tree, `None` for the root.
-    pub fn get_parent(self) -> Option<ValidatorIndex>
-        ensures { result ≡ self.parent }
+    pub fn get_parent(&self) -> Option<ValidatorIndex>
+        ensures { result ≡ self.now.parent }
     {
         self.parent
     }
 
     /// Gives how many children this validator has.
-    pub fn num_children(self) -> usize
-        ensures { result ≡ self.children }
+    pub fn num_children(&self) -> usize
+        ensures { result ≡ self.now.children }
     {
         self.children
     }
 
     /// Gives the list of children of this validator: that part of the buffer that was lent for them. Of a shorter buffer it is the whole.
-    pub fn get_children(self, children: &[u64]) -> &[u64]
-        ensures { result.now ≡ take self.children children.now }
+    pub fn get_children<'a>(&self, children: &'a [u64]) -> &'a [u64]
+        ensures { result.now ≡ take self.now.children children.now }
     {
         children.get(..self.children).unwrap_or(children)
     }
@@ -127,11 +127,14 @@ mod tests {
             &mut nodes,
             &mut children,
         );
-        assert_eq!(rt; view.map(|v| v.words_read), Ok(3));
-        assert_eq!(rt; view.map(|v| v.tree.get_root()), Ok(ValidatorIndex::new(2)));
-        assert_eq!(rt; view.map(|v| v.tree.get_parent()), Ok(None));
-        assert_eq!(rt; view.map(|v| v.tree.num_children()), Ok(2));
+        let View { tree, words_read } = view.expect(&rt, "an accepted call");
+        assert_eq!(rt; words_read, 3);
+        assert_eq!(rt; tree.get_root(), ValidatorIndex::new(2));
+        assert_eq!(rt; tree.get_parent(), None);
+        assert_eq!(rt; tree.num_children(), 2);
+        assert_eq!(rt; tree.get_children(&children), [0, 1].as_slice());
         assert_eq!(rt; order, [2, 0, 1, 9]);
+        assert_eq!(rt; nodes[0].sums, [0; 16]);
         assert_eq!(rt; children, [0, 1, 9]);
     }
 }
