@@ -1,9 +1,7 @@
 -- One weighted draw from each bin is a value for each bin, and then the piece that the value chooses.
 use Rattle.std.proofs.Common.{◌≡◌, ℕ, zero, suc, ◌+◌, ◌-◌, ◌<◌, min, Bool, true, false, if◌then◌else◌, Option, Some, None, List, [], ◌∷◌, ◌++◌, map, length, get_or, refl, sym, ap, ap₂, ◌∙◌, arith, append_assoc, append-nil, length-append, ltb-false, lt-ltb, eq-eqb, ne_eqb}
 use Rattle.std.specs.Prelude.{sum, nat_lt, nat_le, ◌==◌}
-use borrow.Author.Tests.{eqb-true, leb-true, leb-false}
 use Rattle.std.proofs.lemmas.List.{get_or_at, set_at}
-use Rattle.std.proofs.lemmas.List.Sums.{sum_by-cons}
 use Rattle.words.specs.Draw.{and_then}
 use Rattle.draws.specs.declared.weighted.Place.{Place}
 use Rattle.draws.specs.Below.{below}
@@ -12,34 +10,7 @@ use Rattle.fill.specs.declared.piece.Piece.{Piece}
 use Rattle.fill.specs.Fill.{Share, share_stakes, bin_total, put, taken, left, fill, numbered, pieces}
 use Rattle.fill.specs.Values.{holder, seat_of, seats, bin_sums, values_below, Low, choices, replaced}
 use Rattle.fill.proofs.FillLemmas.{bin_total-cons}
-
--- ---- what a bin holds
-
-bin_total-put : (x : Share) (xs : List Share) → bin_total (put x xs) ≡ x.stake + bin_total xs
-bin_total-put x xs = go (x.stake == 0) refl
-  where
-    go : (b : Bool) → (x.stake == 0) ≡ b → bin_total (if b then xs else (x ∷ xs)) ≡ x.stake + bin_total xs
-    go true none = omega (arith, eqb-true x.stake 0 none)
-    go false some = bin_total-cons x xs
-
--- a bin holds what it has room for
-pub bin_total-taken : (room : ℕ) (xs : List Share) → bin_total (taken room xs) ≡ min room (bin_total xs)
-bin_total-taken room [] = omega arith
-bin_total-taken room (x ∷ xs) = go (nat_le x.stake room) refl (bin_total-taken (room - x.stake) xs)
-  where
-    go : (b : Bool) → nat_le x.stake room ≡ b → bin_total (taken (room - x.stake) xs) ≡ min (room - x.stake) (bin_total xs) →
-        bin_total (if b then put x (taken (room - x.stake) xs) else put (record { validator = x.validator; stake = room }) []) ≡ min room (bin_total (x ∷ xs))
-    go true fits rest = omega (arith, leb-true x.stake room fits, bin_total-put x (taken (room - x.stake) xs), rest, bin_total-cons x xs)
-    go false over rest = omega (arith, leb-false x.stake room over, bin_total-put (record { validator = x.validator; stake = room }) [], bin_total-cons x xs)
-
--- and leaves the rest
-pub bin_total-left : (room : ℕ) (xs : List Share) → bin_total (left room xs) ≡ bin_total xs - room
-bin_total-left room [] = omega arith
-bin_total-left room (x ∷ xs) = go (nat_le x.stake room) refl (bin_total-left (room - x.stake) xs)
-  where
-    go : (b : Bool) → nat_le x.stake room ≡ b → bin_total (left (room - x.stake) xs) ≡ bin_total xs - (room - x.stake) → bin_total (if b then left (room - x.stake) xs else (record { validator = x.validator; stake = x.stake - room } ∷ xs)) ≡ bin_total (x ∷ xs) - room
-    go true fits rest = omega (arith, leb-true x.stake room fits, rest, bin_total-cons x xs)
-    go false over rest = omega (arith, leb-false x.stake room over, bin_total-cons x xs, bin_total-cons (record { validator = x.validator; stake = x.stake - room }) xs)
+use Rattle.fill.proofs.FillLaws.{bin_total-taken, bin_total-left, fill_long}
 
 -- the sums of the bins are known before they are filled
 pub fill_totals : (capacity b : ℕ) (xs : List Share) → map bin_total (fill capacity b xs) ≡ bin_sums capacity b (bin_total xs)
@@ -100,11 +71,7 @@ all-replaced n (bin ∷ bins) front (v ∷ vs) at same low =
     ∙ all-replaced (n + 1) bins (front ++ one ∷ []) vs (omega (arith, at, length-append front (one ∷ []))) (omega arith) (λ j within. low (suc j) (omega arith))
     ∙ append_assoc front (one ∷ []) (ids (choices bins vs))
 
-length-fill : (capacity b : ℕ) (xs : List Share) → length (fill capacity b xs) ≡ b
-length-fill capacity zero xs = refl
-length-fill capacity (suc b) xs = ap suc (length-fill capacity b (left capacity xs))
-
 -- the validators that values choose among all pieces are those that they choose in their bins
 pub replaced_are : (capacity : ℕ) (xs : List Share) (vs : List ℕ) → Low (bin_sums capacity (length vs) (bin_total xs)) vs →
     replaced 0 (pieces 0 (fill capacity (length vs) xs)) vs ≡ ids (choices (fill capacity (length vs) xs) vs)
-replaced_are capacity xs vs low = all-replaced 0 (fill capacity (length vs) xs) [] vs refl (sym (length-fill capacity (length vs) xs)) (rw (fill_totals capacity (length vs) xs) low)
+replaced_are capacity xs vs low = all-replaced 0 (fill capacity (length vs) xs) [] vs refl (sym (fill_long capacity (length vs) xs)) (rw (fill_totals capacity (length vs) xs) low)
