@@ -1,4 +1,4 @@
-ghost use Rattle.std.specs.Prelude.{◌≤◌, ◌<◌, ◌≡◌, ◌+◌, ◌^◌, length, replicate, get_or, set};
+ghost use Rattle.std.specs.Prelude.{◌≤◌, ◌<◌, ◌≡◌, ◌+◌, ◌-◌, ◌^◌, length, replicate, get_or, set};
 ghost use Rattle.draws.specs.Weighted.{chosen};
 ghost use Rattle.tree.specs.Sizes.{tree_size};
 ghost use Rattle.tree.specs.Holds.{weights_of, found, Holds, IsTreeOf, SameTree};
@@ -71,7 +71,7 @@ impl Tree<'_> {
         requires holds { Holds self.old (weights_of self.old) }
         requires place { position < self.old.count }
         requires from { from ≡ get_or (weights_of self.old) position 0 }
-        requires fits { self.old.total + to < 2 ^ 64 }
+        requires fits { self.old.total - from + to < 2 ^ 64 }
         ensures holds { IsTreeOf self.new (set (weights_of self.old) position to) }
         ensures same { SameTree self.old self.new }
     {
