@@ -162,7 +162,7 @@ step_whole old columns new weights order capacity bins count bin room at used pl
 pub step_part : (old columns new : Columns) (weights order : List ℕ) (capacity bins count bin room at used place : ℕ) → FilledTo old columns weights order capacity bins count bin room at used →
     HaveRoom old (length order + bins) → at < length order →
     room < get_or weights (get_or order at 0) 0 - used → Stored columns new count place (record { bin = bin; validator = get_or order at 0; stake = room }) →
-    FilledTo old new weights order capacity bins place (bin + 1) capacity at (get_or weights (get_or order at 0) 0 - (get_or weights (get_or order at 0) 0 - used - room))
+    FilledTo old new weights order capacity bins place (bin + 1) capacity at (used + room)
 step_part old columns new weights order capacity bins count bin room at used place to places within large stored =
     let v = get_or order at 0 in
     let w = get_or weights v 0 in
@@ -170,9 +170,9 @@ step_part old columns new weights order capacity bins count bin room at used pla
     let xs = in_order weights (drop (at + 1) order) in
     let piece : Piece = record { bin = bin; validator = v; stake = room } in
     let head : reduced used (in_order weights (drop at order)) ≡ record { validator = v; stake = w - used } ∷ xs = shares_at weights order at used within in
-    let over : w - (w - (w - used - room)) ≡ w - used - room = omega arith in
-    let next : reduced (w - (w - used - room)) (in_order weights (drop at order)) ≡ record { validator = v; stake = w - used - room } ∷ xs =
-    shares_at weights order at (w - (w - used - room)) within ∙ ap (λ (n : ℕ). record { validator = v; stake = n } ∷ xs) over in
+    let over : w - (used + room) ≡ w - used - room = omega arith in
+    let next : reduced (used + room) (in_order weights (drop at order)) ≡ record { validator = v; stake = w - used - room } ∷ xs =
+    shares_at weights order at (used + room) within ∙ ap (λ (n : ℕ). record { validator = v; stake = n } ∷ xs) over in
     let sums = bin_total-cons (record { validator = v; stake = w - used }) xs in
     let more : 0 < bins - (bin + 1) = another_bin (bins - (bin + 1)) capacity room (w - used) large (omega (arith, to.fits, ap bin_total head, sums)) in
     let one_less : bins - (bin + 1) ≡ suc b = omega arith in

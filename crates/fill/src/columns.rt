@@ -9,15 +9,8 @@ pub struct Columns<'a> {
 }
 
 impl Columns<'_> {
-    ghost use Rattle.std.specs.Prelude.{◌+◌, ◌↔◌, IsTrue};
+    ghost use Rattle.std.specs.Prelude.{◌+◌};
     ghost use Rattle.fill.specs.Columns.{HaveRoom, SameLoans, PutAt};
-
-    /// Whether each column has so many places.
-    pub fn have_room(&self, places: usize) -> bool
-        ensures { IsTrue result ↔ HaveRoom self.now places }
-    {
-        places <= self.bins.len() && places <= self.validators.len() && places <= self.stakes.len()
-    }
 
     /// Stores a piece at a place.
     pub fn put(&mut self, at: usize, piece: Piece)

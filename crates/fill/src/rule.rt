@@ -30,7 +30,6 @@ pub fn fill(
     columns: &mut Columns,
 ) -> usize
     requires some { 0 < bins }
-    requires few { bins ≤ 1024 }
     requires ids { All (λ i. i < length weights.now) order.now }
     requires room { bin_total (in_order weights.now order.now) ≤ bins * capacity }
     requires places { HaveRoom columns.old (length order.now + bins) }
@@ -43,6 +42,7 @@ pub fn fill(
     let mut room = capacity;
     let mut at = 0;
     let mut used: u64 = 0;
+    // A stake may be split among bins, so a step is a piece and no item of a list.
     while at < order.len() {
         let validator = order[at];
         let weight = weights[validator as usize];
@@ -64,7 +64,7 @@ pub fn fill(
                 stake: room,
             };
             count = put_some(columns, count, piece);
-            used = weight - (stake - room);
+            used += room;
             room = capacity;
             bin += 1;
         }

@@ -38,7 +38,6 @@ pub fn fill_and_choose(
     seats: &mut [u64],
 ) -> usize
     requires some { 0 < length seats.old }
-    requires few { length seats.old ≤ 1024 }
     requires ids { All (λ i. i < length weights.now) order.now }
     requires room { bin_total (in_order weights.now order.now) ≤ length seats.old * capacity }
     requires low { Low (bin_sums capacity (length seats.old) (bin_total (in_order weights.now order.now))) seats.old }

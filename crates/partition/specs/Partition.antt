@@ -84,7 +84,6 @@ placed held (Some p, first, second) = (Some (length p.pieces, seat_ids p), colum
 pub record Fillable (S : ℕ) (bins : Bins) : Type 0 where
   pub is : bins.sum ≡ S
   pub some : 0 < bins.number
-  pub few : bins.number ≤ 1024
   pub capacity : 0 < bins.capacity
   pub room : bins.sum ≤ bins.number * bins.capacity
   pub full : (bins.number - 1) * bins.capacity < bins.sum

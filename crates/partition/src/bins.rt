@@ -14,8 +14,8 @@ use words::WordSource;
 fn count_up(order: &mut [u64])
     ensures { order.new ≡ ids_from 0 (length order.old) }
 {
-    for i in 0..order.len() {
-        order[i] = i as u64;
+    for (i, id) in order.iter_mut().enumerate() {
+        *id = i as u64;
     }
 }
 

@@ -27,9 +27,7 @@ pub fn check_columns(columns: &Columns, n: usize, bins: usize) -> Result<(), Ref
 
 /// Bins for a sum, of which none would be empty.
 pub fn check_bins(sum: u64, number: usize) -> Result<Bins, Refusal>
-    requires positive { 0 < sum }
-    requires some { 0 < number }
-    requires few { number ≤ 1024 }
+    requires { 0 < number }
     ensures fillable { IfOk result (Fillable sum) }
     ensures checked { result
         ≡ unless (first_of (empty_bin (capacity sum number) sum number ∷ [])) (Ok (record { number = number; capacity = capacity sum number; sum = sum })) }
