@@ -1,23 +1,31 @@
--- What is promised of each accepted call.
-use Rattle.std.specs.Prelude.{ℕ, ◌≡◌, ◌<◌, length, take, List, slice_index, All, OnOk, Result}
+-- What is promised of every accepted call.
+use Rattle.std.specs.Prelude.{ℕ, ◌≡◌, Result, Ok, List, length, take, All, OnOk}
 use Rattle.refusals.specs.declared.refusal.Refusal.{Refusal}
-use Rattle.stake_weighted.specs.declared.quorum.Quorum.{Quorum}
-use Rattle.stake_weighted.specs.Quorum.{sample_quorum}
+use Rattle.draws.specs.declared.weighted.Place.{Place}
+use Rattle.draws.specs.Weighted.{Placed, AllPlaced, HasWeight}
+use Rattle.stake_weighted.specs.Calls.{sampled, quorum, sample_quorum}
 
--- a seat is the place of a stake above 0
-pub record HasStake (stakes : List ℕ) (seat : ℕ) : Type 0 where
-  pub within : seat < length stakes
-  pub some : 0 < slice_index stakes seat
+-- `sample` picks a validator of the list, with a stake above 0
+abbrev pub SamplePlaced : Type 0
+SamplePlaced = (stakes ws : List ℕ) (p : Place) (left : List ℕ) → sampled stakes ws ≡ (Ok p, left) → Placed stakes p
 
--- a committee of k such seats
+-- a committee has k seats, and each is such a validator
+pub record Committee (k : ℕ) (stakes : List ℕ) (places : List Place) : Type 0 where
+  pub size : length places ≡ k
+  pub placed : AllPlaced stakes places
+
+abbrev pub QuorumPlaced : Type 0
+QuorumPlaced =
+    (stakes : List ℕ) (k room : ℕ) (ws : List ℕ) (places : List Place) (left : List ℕ) → quorum stakes k room ws ≡ (Ok places, left) →
+    Committee k stakes places
+
+-- the ids of such a committee
 pub record IsCommittee (k : ℕ) (stakes : List ℕ) (seats : List ℕ) : Type 0 where
   pub size : length seats ≡ k
-  pub have_stake : All (HasStake stakes) seats
+  pub have_stake : All (HasWeight stakes) seats
 
--- where a call is accepted, a committee stands at the front of what was lent
-abbrev pub Law : ℕ → List ℕ → Result Quorum Refusal × List ℕ × List ℕ → Type 0
-Law k stakes call = OnOk call.0 (IsCommittee k stakes (take k call.1))
-
--- so it is with each call, whatever the words
+-- where a call is accepted, whatever the words, they stand at the front of what was lent
 abbrev pub CallsGiveCommittees : Type 0
-CallsGiveCommittees = (k : ℕ) (stakes held ws : List ℕ) → Law k stakes (sample_quorum k stakes held ws)
+CallsGiveCommittees =
+    (k : ℕ) (stakes held ws : List ℕ) →
+    let call = sample_quorum k stakes held ws in OnOk call.0 (IsCommittee k stakes (take k call.1))

@@ -1,8 +1,11 @@
-ghost use Rattle.std.specs.Prelude.{◌≡◌, ◌≤◌, length, take, OnOk};
+ghost use Rattle.std.specs.Prelude.{◌≡◌, ◌≤◌, length};
 ghost use Rattle.std.specs.Option.{option_map};
-ghost use Rattle.stake_weighted.specs.Quorum.{drawn_seats, committee, answered, sample_quorum};
-ghost use Rattle.stake_weighted.specs.Laws.{IsCommittee};
+ghost use Rattle.refusals.specs.Refusal.{first_of, sum_checks};
+ghost use Rattle.draws.specs.Call.{after_checks, or_no_word};
+ghost use Rattle.stake_weighted.specs.Seats.{iid, iid_seats};
+ghost use Rattle.stake_weighted.specs.Calls.{quorum_answer, sample_quorum};
 
+use crate::sample::StakeWeightedSampler;
 use draws::{Weights, draw_weighted};
 use refusals::{Refusal, check_list_length, check_room, check_size};
 use words::WordSource;
@@ -16,68 +19,88 @@ pub struct Quorum {
 /// A sampler that picks a committee of `k`, each seat by itself.
 #[derive(Clone, Copy, Debug, PartialEq, Eq)]
 pub struct IidQuorumSampler {
-    pub k: usize,
+    inner: StakeWeightedSampler,
+    k: usize,
 }
 
 impl IidQuorumSampler {
-    /// A committee of `k`, written to the front of `seats`.
-    pub fn sample_quorum<W: WordSource>(
-        &self,
+    /// A sampler for committees of `k`.
+    pub fn new(inner: StakeWeightedSampler, k: usize) -> Self
+        ensures { result ≡ record { inner = inner; k = k } }
+    {
+        Self { inner, k }
+    }
+
+    /// The size of a committee.
+    pub fn quorum_size(self) -> usize
+        ensures { result ≡ self.k }
+    {
+        self.k
+    }
+
+    /// A committee of `k`, written to the front of `seats`, or the first reason to turn the call down.
+    pub fn sample_quorum<W: WordSource + Drop>(
+        self,
         stakes: &[u64],
-        words: &mut W,
+        words: W,
         seats: &mut [u64],
     ) -> Result<Quorum, Refusal>
-        ensures sampled { (result, seats.new, W.words words.new)
-            ≡ sample_quorum self.now.k stakes.now seats.old (W.words words.old) }
-        ensures committee { OnOk result (IsCommittee self.now.k stakes.now (take self.now.k seats.new)) }
+        ensures { (result, seats.new) ≡ sample_quorum self.k stakes.now seats.old (W.words words) }
     {
         let (n, k) = (stakes.len(), self.k);
         check_list_length(n)?;
         check_size(k)?;
         check_room(seats.len(), k)?;
-        if n <= 64 && k <= 64 {
-            in_scratch::<W, 64, 64>(stakes, k, words, seats)
-        } else if n <= 1024 {
-            in_scratch::<W, 1024, 1024>(stakes, k, words, seats)
-        } else {
-            in_scratch::<W, 4096, 1024>(stakes, k, words, seats)
+        let mut words = words;
+        match (n, k) {
+            (..=64, ..=64) => self.in_scratch::<W, 64, 64>(stakes, &mut words, seats),
+            (..=64, _) => self.in_scratch::<W, 64, 1024>(stakes, &mut words, seats),
+            (..=1024, ..=64) => self.in_scratch::<W, 1024, 64>(stakes, &mut words, seats),
+            (..=1024, _) => self.in_scratch::<W, 1024, 1024>(stakes, &mut words, seats),
+            (_, ..=64) => self.in_scratch::<W, 4096, 64>(stakes, &mut words, seats),
+            _ => self.in_scratch::<W, 4096, 1024>(stakes, &mut words, seats),
         }
+    }
+
+    // A committee in scratch space for up to N stakes and K seats, since zeroing what is not needed costs time.
+    fn in_scratch<W: WordSource, const N: usize, const K: usize>(
+        self,
+        stakes: &[u64],
+        words: &mut W,
+        seats: &mut [u64],
+    ) -> Result<Quorum, Refusal>
+        requires small { (N ≤ 4096) × (K ≤ 1024) }
+        requires stakes { length stakes.now ≤ N }
+        requires drawn { self.k ≤ K }
+        requires seats { self.k ≤ length seats.old }
+        ensures { (result, seats.new)
+            ≡ quorum_answer seats.old (W.words words.old)
+                (after_checks (first_of (sum_checks stakes.now)) (W.words words.old) (or_no_word (iid self.k stakes.now (W.words words.old)))) }
+    {
+        let k = self.k;
+        let mut sums = [0; N];
+        let mut drawn = [0; K];
+        let weights = Weights::new(stakes, &mut sums[..stakes.len()])?;
+        let before = words.words_left();
+        let drawn = &mut drawn[..k];
+        draw_seats(words, weights, drawn).ok_or(Refusal::NoWordLeft)?;
+        seats[..k].copy_from_slice(drawn);
+        Ok(Quorum {
+            words_read: before.saturating_sub(words.words_left()),
+        })
     }
 }
 
-// A committee in scratch space for up to N stakes and K seats, since zeroing what is not needed costs time.
-fn in_scratch<W: WordSource, const N: usize, const K: usize>(
-    stakes: &[u64],
-    k: usize,
-    words: &mut W,
-    seats: &mut [u64],
-) -> Result<Quorum, Refusal>
-    requires small { (N ≤ 4096) × (K ≤ 1024) }
-    requires stakes { length stakes.now ≤ N }
-    requires drawn { k ≤ K }
-    requires seats { k ≤ length seats.old }
-    ensures { (result, seats.new, W.words words.new)
-        ≡ answered seats.old (W.words words.old) (committee k stakes.now (W.words words.old)) }
-{
-    let mut sums = [0; N];
-    let mut drawn = [0; K];
-    let weights = Weights::new(stakes, &mut sums[..stakes.len()])?;
-    let before = words.words_left();
-    let drawn = &mut drawn[..k];
-    draw_seats(words, weights, drawn).ok_or(Refusal::NoWordLeft)?;
-    seats[..k].copy_from_slice(drawn);
-    Ok(Quorum {
-        words_read: before.saturating_sub(words.words_left()),
-    })
-}
-
-/// Draws each seat by itself; `None` where the words run out. The weights come by value, so that they stand in registers.
+/// Draws each seat by itself: the ids alone, without what is left of each value; `None` where the words run out. The weights come by
+/// value, so that they stand in registers.
+#[inline(never)]
+#[tactic(auto, using(crate::proofs::SeatLemmas::with_front_step))]
 pub fn draw_seats<W: WordSource>(words: &mut W, weights: Weights, seats: &mut [u64]) -> Option<()>
     ensures { (option_map (λ _. seats.new) result, W.words words.new)
-        ≡ drawn_seats (length seats.old) weights.entry (W.words words.old) }
+        ≡ iid_seats (length seats.old) weights.entry (W.words words.old) }
 {
     for seat in seats.iter_mut() {
-        *seat = draw_weighted(words, &weights)? as u64;
+        *seat = draw_weighted(words, &weights)?.at as u64;
     }
     Some(())
 }
@@ -87,20 +110,24 @@ mod tests {
     use super::*;
     use words::ListWords;
 
+    fn sampler(k: usize) -> IidQuorumSampler {
+        IidQuorumSampler::new(StakeWeightedSampler::new(), k)
+    }
+
     #[test]
     fn seats_follow_the_words(rt: HostRuntime) {
-        let mut words = ListWords::new(&[0, 5, 2, 9], 0);
+        let words = ListWords::new(&[0, 5, 2, 9], 0);
         let mut seats = [7; 4];
-        let answer = IidQuorumSampler { k: 3 }.sample_quorum(&[1, 0, 3], &mut words, &mut seats);
+        let answer = sampler(3).sample_quorum(&[1, 0, 3], words, &mut seats);
         assert_eq!(rt; answer, Ok(Quorum { words_read: 3 }));
         assert_eq!(rt; seats, [0, 2, 2, 7]);
     }
 
     #[test]
     fn a_missing_word_leaves_the_seats(rt: HostRuntime) {
-        let mut words = ListWords::new(&[0, 5], 0);
+        let words = ListWords::new(&[0, 5], 0);
         let mut seats = [7; 4];
-        let answer = IidQuorumSampler { k: 3 }.sample_quorum(&[1, 0, 3], &mut words, &mut seats);
+        let answer = sampler(3).sample_quorum(&[1, 0, 3], words, &mut seats);
         assert_eq!(rt; answer, Err(Refusal::NoWordLeft));
         assert_eq!(rt; seats, [7; 4]);
     }

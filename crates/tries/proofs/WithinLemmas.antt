@@ -8,7 +8,7 @@ use Rattle.words.specs.Draw.{after, and_then}
 use Rattle.draws.specs.declared.weighted.Place.{Place}
 use Rattle.draws.specs.Fraction.{fraction}
 use Rattle.draws.specs.Weighted.{weighted, Placed}
-use Rattle.draws.proofs.DrawLemmas.{went, weighted-placed}
+use Rattle.draws.proofs.DrawLemmas.{went, weighted_placed}
 use Rattle.tries.specs.declared.seat.Try.{Try}
 use Rattle.tries.specs.declared.seat.Seat.{Seat}
 use Rattle.tries.specs.Tries.{accepts, try, seat}
@@ -28,7 +28,7 @@ module _ (stakes counts : List ℕ) (max : Float) (some : 0 < sum stakes) where
       let one = went (weighted stakes ws) made t e in
       let two = went (fraction one.rest) (λ x rest. (Some (record { place = one.value; taken = accepts (get_or counts one.value.at 0) max x }), rest)) t one.second in
       let place : one.value ≡ t.place = cc in
-      subst (Placed stakes) place (weighted-placed stakes ws one.value some one.first)
+      subst (Placed stakes) place (weighted_placed stakes ws one.value some one.first)
 
   taken_within : (allowed made : ℕ) (ws : List ℕ) (s : Seat) → (seat allowed made stakes counts max ws).0 ≡ Ok s → TakenWithin allowed made stakes s
   taken_within zero made ws s e = cc
