@@ -1,5 +1,5 @@
 -- The places of an accepted call have stake.
-use Rattle.std.proofs.Common.{◌≡◌, ℕ, zero, suc, ◌<◌, Option, Some, None, Result, Ok, Err, List, [], ◌∷◌, ◌++◌, length, take, drop, refl, ap, subst, arith, take_at}
+use Rattle.std.proofs.Common.{◌≡◌, ℕ, zero, suc, ◌<◌, Some, Result, Ok, Err, List, [], ◌∷◌, length, take, drop, refl, ap, take_at}
 use Rattle.std.specs.Prelude.{sum, All, OnOk}
 use Rattle.std.proofs.lemmas.List.{length-map}
 use Rattle.std.proofs.lemmas.List.Elements.{All-cons, All-nil}
@@ -8,7 +8,7 @@ use Rattle.refusals.specs.declared.refusal.Refusal.{Refusal}
 use Rattle.refusals.specs.Refusal.{first_of, list_length, sum_checks}
 use Rattle.words.specs.Draw.{and_then}
 use Rattle.draws.specs.declared.weighted.Place.{Place}
-use Rattle.draws.specs.Weighted.{weighted, ids, Placed, AllPlaced, HasWeight}
+use Rattle.draws.specs.Weighted.{weighted, ids, AllPlaced, HasWeight}
 use Rattle.draws.specs.Call.{or_no_word}
 use Rattle.draws.proofs.DrawLemmas.{went, weighted_placed}
 use Rattle.draws.proofs.CallLemmas.{accepted, drawn, passed, some_sum}

@@ -1,6 +1,5 @@
 -- What is promised of every accepted call.
-use Rattle.std.specs.Prelude.{ℕ, ◌≡◌, Result, Ok, List, length, take, All, OnOk}
-use Rattle.refusals.specs.declared.refusal.Refusal.{Refusal}
+use Rattle.std.specs.Prelude.{ℕ, ◌≡◌, Ok, List, length, take, All, OnOk}
 use Rattle.draws.specs.declared.weighted.Place.{Place}
 use Rattle.draws.specs.Weighted.{Placed, AllPlaced, HasWeight}
 use Rattle.stake_weighted.specs.Calls.{sampled, quorum, sample_quorum}

@@ -75,7 +75,7 @@ impl IidQuorumSampler {
         requires seats { self.k ≤ length seats.old }
         ensures { (result, seats.new)
             ≡ quorum_answer seats.old (W.words words.old)
-                (after_checks (first_of (sum_checks stakes.now)) (W.words words.old) (or_no_word (iid self.k stakes.now (W.words words.old)))) }
+            (after_checks (first_of (sum_checks stakes.now)) (W.words words.old) (or_no_word (iid self.k stakes.now (W.words words.old)))) }
     {
         let k = self.k;
         let mut sums = [0; N];
@@ -94,7 +94,7 @@ impl IidQuorumSampler {
 /// Draws each seat by itself: the ids alone, without what is left of each value; `None` where the words run out. The weights come by
 /// value, so that they stand in registers.
 #[inline(never)]
-#[tactic(auto, using(crate::proofs::SeatLemmas::with_front_step))]
+#[tactic(auto, using(crate::proofs::SeatLemmas::with_front_step, std::proofs::lemmas::Grind::common_steps))]
 pub fn draw_seats<W: WordSource>(words: &mut W, weights: Weights, seats: &mut [u64]) -> Option<()>
     ensures { (option_map (λ _. seats.new) result, W.words words.new)
         ≡ iid_seats (length seats.old) weights.entry (W.words words.old) }

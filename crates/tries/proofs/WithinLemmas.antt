@@ -1,9 +1,8 @@
 -- A seat that is taken: its place has a stake, and it took so many tries.
-use Rattle.std.proofs.Common.{◌≡◌, ℕ, zero, suc, ◌+◌, ◌≤◌, ◌<◌, Bool, true, false, if◌then◌else◌, Option, Some, None, Result, Ok, Err, List, get_or, refl, arith, subst}
+use Rattle.std.proofs.Common.{◌≡◌, ℕ, zero, suc, ◌+◌, ◌≤◌, ◌<◌, Bool, true, false, if◌then◌else◌, Option, Some, None, Ok, Err, List, get_or, refl, arith, subst}
 use Rattle.std.specs.Prelude.{sum}
 use lib.Ieee.{Float}
-use Rattle.refusals.specs.declared.refusal.Refusal.{Refusal}
-use Rattle.refusals.specs.declared.refusal.Refusal.TheVariants.{NoWordLeft, LastTryRejected}
+use Rattle.refusals.specs.declared.refusal.Refusal.TheVariants.{NoWordLeft}
 use Rattle.words.specs.Draw.{after, and_then}
 use Rattle.draws.specs.declared.weighted.Place.{Place}
 use Rattle.draws.specs.Fraction.{fraction}
