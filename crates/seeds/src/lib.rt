@@ -13,6 +13,7 @@ use refusals::{Refusal, check_room};
 pub const SEED_BYTES: usize = 32;
 
 /// Writes the seed of the Turbine tree for a shred of a slot to the front of the buffer.
+#[tactic(auto, using(crate::proofs::SeedLemmas::front_16, crate::proofs::SeedLemmas::turbine_written))]
 pub fn turbine_seed(slot: u64, shred: u64, seed: &mut [u8]) -> Result<(), Refusal>
     ensures { (result, seed.new) ≡ write_seed (turbine_seed slot shred) seed.old }
 {
@@ -24,6 +25,7 @@ pub fn turbine_seed(slot: u64, shred: u64, seed: &mut [u8]) -> Result<(), Refusa
 }
 
 /// Writes the seed of the relay committee for a slice of a slot to the front of the buffer.
+#[tactic(auto, using(crate::proofs::SeedLemmas::rotor_written))]
 pub fn rotor_seed(slot: u64, slice: u64, seed: &mut [u8]) -> Result<(), Refusal>
     ensures { (result, seed.new) ≡ write_seed (rotor_seed slot slice) seed.old }
 {
