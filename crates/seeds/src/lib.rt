@@ -1,13 +1,13 @@
 //! Seeds: the 32 bytes that the words of a Turbine tree or of a Rotor committee are made from.
 #![tactic(auto)]
 
-mod laws;
+mod theorems;
 
 ghost use Rattle.std.specs.Prelude.{◌≡◌};
 ghost use Rattle.seeds.specs.Seeds.{turbine_seed, rotor_seed, write_seed};
 
-pub use laws::seeds_have_32_bytes;
 use refusals::{Refusal, check_room};
+pub use theorems::seeds_have_32_bytes;
 
 /// How many bytes a seed has.
 pub const SEED_BYTES: usize = 32;
