@@ -9,7 +9,7 @@ use Rattle.tree.specs.declared.tree.Tree.{Tree}
 use Rattle.tree.specs.Holds.{weights_of, Holds, IsTreeOf, SameTree}
 use Rattle.weighted_shuffle.specs.Order.{counts, counted_from, counted, zeros_from, zeros_of}
 use Rattle.weighted_shuffle.specs.State.{heavy, from_end, Begun}
-use Rattle.weighted_shuffle.proofs.StepLemmas.{length-end, ends_alike}
+use Rattle.weighted_shuffle.proofs.StepLemmas.{heavy-zero, heavy-suc, length-end, ends_alike}
 
 pub length-counted : (before : ℕ) (ws : List ℕ) → length (counted_from before ws) ≡ length ws
 length-counted before [] = refl
@@ -42,11 +42,8 @@ zeros-more k (v ∷ ws) w =
 
 heavy-zeros : (k : ℕ) (ws : List ℕ) → heavy ws + length (zeros_from k ws) ≡ length ws
 heavy-zeros k [] = refl
-heavy-zeros k (w ∷ ws) = go (w == 0) (heavy-zeros (suc k) ws)
-  where
-    go : (b : Bool) → heavy ws + length (zeros_from (suc k) ws) ≡ length ws → (if b then heavy ws else suc (heavy ws)) + length (if b then k ∷ zeros_from (suc k) ws else zeros_from (suc k) ws) ≡ suc (length ws)
-    go true h = omega arith
-    go false h = omega arith
+heavy-zeros k (zero ∷ ws) = omega (arith, heavy-zero ws, heavy-zeros (suc k) ws)
+heavy-zeros k (suc w ∷ ws) = rw (ne_eqb (suc w) 0 (λ e. omega arith)) (omega (arith, heavy-suc w ws, heavy-zeros (suc k) ws))
 
 from_end-more : (z n : ℕ) (places : List ℕ) → from_end (z + 1) n places ≡ from_end z n places ++ get_or places (n - 1 - z) 0 ∷ []
 from_end-more zero n places = let e : n - 1 ≡ n - 1 - 0 = omega arith in ap (λ (k : ℕ). get_or places k 0 ∷ []) e

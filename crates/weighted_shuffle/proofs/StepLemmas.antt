@@ -1,10 +1,8 @@
 -- The steps of a shuffle.
-use Rattle.std.proofs.Common.{◌≡◌, ℕ, zero, suc, ◌+◌, ◌-◌, ◌≤◌, ◌<◌, Option, Some, None, List, [], ◌∷◌, ◌++◌, length, take, get_or, set, sum, replicate, refl, ap, ◌∙◌, arith, append_assoc, Bool, true, false, if◌then◌else◌}
-use Rattle.std.specs.Prelude.{◌==◌}
-use Rattle.std.proofs.Common.{lt-ltb, le-ltb, eq-eqb, ne_eqb}
-use Rattle.std.proofs.lemmas.Bool.{eqb-true}
+use Rattle.std.proofs.Common.{nat_lt, ◌≡◌, ℕ, zero, suc, ◌+◌, ◌-◌, ◌≤◌, ◌<◌, Option, Some, None, List, [], ◌∷◌, ◌++◌, length, take, get_or, set, sum, replicate, refl, ap, ◌∙◌, arith, append_assoc, if◌then◌else◌}
+use Rattle.std.proofs.Common.{lt-ltb, le-ltb}
 use Rattle.std.proofs.lemmas.List.{get_or-set_same, get_or-set_other, length-set, take_more_set}
-use Rattle.std.proofs.lemmas.List.Sums.{sum_by-cons}
+use Rattle.std.proofs.lemmas.List.Sums.{sum_by-cons, sum_by-set, count_by-le-length}
 use Rattle.words.specs.Draw.{and_then}
 use Rattle.draws.specs.Below.{below}
 use Rattle.draws.specs.Weighted.{chosen}
@@ -34,36 +32,26 @@ pub record Drawing (ws₀ drawn₀ : List ℕ) (words₀ : List ℕ) (tree₀ tr
   pub order : with_front (take i drawn) (steps (length drawn - i) (left_of i (weights_of tree) drawn) words) ≡ steps (length drawn₀) (left_of 0 ws₀ drawn₀) words₀
 
 -- how many positions have weight
-heavy-le : (ws : List ℕ) → heavy ws ≤ length ws
-heavy-le [] = omega arith
-heavy-le (w ∷ ws) = go (w == 0) (heavy-le ws)
-  where
-    go : (b : Bool) → heavy ws ≤ length ws → (if b then heavy ws else suc (heavy ws)) ≤ suc (length ws)
-    go true h = omega arith
-    go false h = omega arith
+pub heavy-zero : (ws : List ℕ) → heavy (0 ∷ ws) ≡ heavy ws
+heavy-zero ws = omega (arith, sum_by-cons (λ w. (if nat_lt 0 w then 1 else 0)) 0 ws)
+
+pub heavy-suc : (w : ℕ) (ws : List ℕ) → heavy (suc w ∷ ws) ≡ suc (heavy ws)
+heavy-suc w ws = sum_by-cons (λ v. (if nat_lt 0 v then 1 else 0)) (suc w) ws ∙ rw (lt-ltb 0 (suc w) (omega arith)) (omega arith)
 
 pub heavy-none : (ws : List ℕ) → sum ws ≡ 0 → heavy ws ≡ 0
 heavy-none [] none = refl
-heavy-none (w ∷ ws) none =
-    let all = sum_by-cons (λ x. x) w ws in
-    rw (eq-eqb w 0 (omega arith)) (heavy-none ws (omega arith))
+heavy-none (zero ∷ ws) none = heavy-zero ws ∙ heavy-none ws (omega (arith, sum_by-cons (λ x. x) 0 ws))
+heavy-none (suc w ∷ ws) none = absurd (omega (arith, sum_by-cons (λ x. x) (suc w) ws))
 
-pub heavy-all : (ws : List ℕ) → heavy ws ≡ 0 → sum ws ≡ 0
+heavy-all : (ws : List ℕ) → heavy ws ≡ 0 → sum ws ≡ 0
 heavy-all [] none = refl
-heavy-all (w ∷ ws) none = go (w == 0) refl (heavy-all ws) none
-  where
-    go : (b : Bool) → (w == 0) ≡ b → (heavy ws ≡ 0 → sum ws ≡ 0) → (if b then heavy ws else suc (heavy ws)) ≡ 0 → sum (w ∷ ws) ≡ 0
-    go true e all none = omega (arith, sum_by-cons (λ x. x) w ws, all none, eqb-true w 0 e)
-    go false e all none = absurd (omega arith)
+heavy-all (zero ∷ ws) none = omega (arith, sum_by-cons (λ x. x) 0 ws, heavy-all ws (omega (arith, heavy-zero ws)))
+heavy-all (suc w ∷ ws) none = absurd (omega (arith, heavy-suc w ws))
 
-heavy-taken : (ws : List ℕ) (p : ℕ) → 0 < get_or ws p 0 → suc (heavy (set ws p 0)) ≡ heavy ws
-heavy-taken [] p some = absurd (omega arith)
-heavy-taken (w ∷ ws) zero some = rw (ne_eqb w 0 (λ e. omega arith))
-heavy-taken (w ∷ ws) (suc p) some = go (w == 0) (heavy-taken ws p some)
-  where
-    go : (b : Bool) → suc (heavy (set ws p 0)) ≡ heavy ws → suc (if b then heavy (set ws p 0) else suc (heavy (set ws p 0))) ≡ (if b then heavy ws else suc (heavy ws))
-    go true h = h
-    go false h = ap suc h
+heavy-taken : (ws : List ℕ) (p : ℕ) → p < length ws → 0 < get_or ws p 0 → suc (heavy (set ws p 0)) ≡ heavy ws
+heavy-taken ws p within some =
+    let one_less = sum_by-set (λ w. (if nat_lt 0 w then 1 else 0)) ws p 0 0 within in
+    omega (arith, (rw (lt-ltb 0 (get_or ws p 0) some) at one_less))
 
 -- the numbers at the end
 pub length-end : (z n : ℕ) (places : List ℕ) → length (from_end z n places) ≡ z
@@ -100,7 +88,7 @@ end_fewer (suc z) n places = ap (λ (xs : List ℕ). get_or places (n - 1) 0 ∷
 module _ (i v p total : ℕ) (ws ws' drawn words left : List ℕ) (room : length drawn ≡ length ws) (within : i < length ws) (total_is : total ≡ sum ws) (some : 0 < total) (heavies : i + heavy ws ≤ length ws)
     (draw : ◌≡◌ {A = Option ℕ × List ℕ} (Some v, left) (below total words)) (low : v < total) (place : p ≡ chosen ws v) (taken : ws' ≡ set ws p 0) where
   pub weight_step-left : suc (heavy ws') ≡ heavy ws
-  weight_step-left = let placed = chosen_placed ws v (omega (arith, total_is)) in rw (taken, place) (heavy-taken ws (chosen ws v) (omega (arith, placed.below_weight)))
+  weight_step-left = let placed = chosen_placed ws v (omega (arith, total_is)) in rw (taken, place) (heavy-taken ws (chosen ws v) placed.within (omega (arith, placed.below_weight)))
 
   pub weight_step : ◌≡◌ {A = Option Step × List ℕ} (Some (step_to i p ws' drawn), left) (step (left_of i ws drawn) words)
   weight_step =
@@ -163,7 +151,7 @@ drawing_none tree drawn words holds room =
       holds = holds;
       same = record { nodes = refl; count = refl; first = refl };
       long = refl;
-      left = omega (arith, heavy-le (weights_of tree), holds.count);
+      left = omega (arith, count_by-le-length (λ w. nat_lt 0 w) (weights_of tree), holds.count);
       order = with_front-nil (steps (length drawn - 0) (left_of 0 (weights_of tree) drawn) words) ∙ ap (λ (n : ℕ). steps n (left_of 0 (weights_of tree) drawn) words) all;
     }
 

@@ -39,7 +39,11 @@ fn step<W: WordSource>(words: &mut W, tree: &mut Tree, drawn: &mut [u64], i: usi
 }
 
 /// Draws all positions; `None` where the words run out. After the last, every sum in the tree is 0.
-pub(crate) fn draw_order<W: WordSource>(words: &mut W, tree: &mut Tree, drawn: &mut [u64]) -> Option<()>
+pub(crate) fn draw_order<W: WordSource>(
+    words: &mut W,
+    tree: &mut Tree,
+    drawn: &mut [u64],
+) -> Option<()>
     requires holds { Holds tree.old (weights_of tree.old) }
     requires room { length drawn.old ≡ tree.old.count }
     ensures order { (option_map (λ _. drawn.new) result, W.words words.new)
