@@ -2,10 +2,11 @@
 use Rattle.std.proofs.Common.{◌≡◌, ℕ, suc, ◌+◌, ◌-◌, ◌*◌, ◌/◌, ◌≤◌, ◌<◌, Bool, true, false, Option, Some, None, List, get_or, refl, sym, ap, ◌∙◌, arith, suc-mul, le-mul_of_pos_right, le-div_iff_mul-le, div-lt_iff_lt-mul, div-le_self, eq-eqb, ne_eqb}
 use Rattle.std.specs.Prelude.{◌==◌}
 use Rattle.std.proofs.lemmas.Bool.{eqb-true, eqb-false}
-use Rattle.shuffle_laws.specs.Orders.{count, IsOrder}
-use Rattle.shuffle_laws.proofs.IdLemmas.{order_long, order_below, order_count}
+use Rattle.laws.specs.Counts.{count}
+use Rattle.laws.specs.Orders.{Permutation, ids_from}
+use Rattle.laws.proofs.Ids.{order_long, order_below, order_count}
 use Rattle.turbine.specs.View.{position_of, parent_at, children_at}
-use Rattle.view_laws.proofs.PositionLemmas.{position_lt, position_at, position_of_lem, part_once, part_before, part_within}
+use Rattle.view_laws.proofs.PositionLemmas.{position_lt, position_at, position_of_at, part_once, part_before, part_within}
 
 -- positions q × fanout + 1 to q × fanout + fanout are those p above 0 with floor((p − 1) / fanout) = q
 module _ (fanout : ℕ) (some : 0 < fanout) (p q : ℕ) where
@@ -33,7 +34,7 @@ pub record Below (fanout p q : ℕ) : Type 0 where
   pub after_root : 0 < p
   pub at : (p - 1) / fanout ≡ q
 
-module _ (n : ℕ) (order : List ℕ) (permutes : IsOrder n order) where
+module _ (n : ℕ) (order : List ℕ) (permutes : Permutation (ids_from 0 n) order) where
   once : (i : ℕ) → i < n → count i order ≡ 1
   once = order_count n order permutes
 
@@ -46,8 +47,8 @@ module _ (n : ℕ) (order : List ℕ) (permutes : IsOrder n order) where
   pub id_lt : (p : ℕ) → p < n → get_or order p 0 < n
   id_lt p h = order_below n order permutes p (omega (arith, order_long n order permutes))
 
-  pub chosen : (p : ℕ) → p < n → position_of (get_or order p 0) order ≡ p
-  chosen p h = position_of_lem order p (omega (arith, order_long n order permutes)) (once (get_or order p 0) (id_lt p h))
+  pub place_of : (p : ℕ) → p < n → position_of (get_or order p 0) order ≡ p
+  place_of p h = position_of_at order p (omega (arith, order_long n order permutes)) (once (get_or order p 0) (id_lt p h))
 
   module _ (fanout : ℕ) (some : 0 < fanout) where
     -- a child is listed once
@@ -91,5 +92,5 @@ module _ (n : ℕ) (order : List ℕ) (permutes : IsOrder n order) where
             let same : get_or order ((position_of i order - 1) / fanout) 0 ≡ j = ap id_of (sym (names_some i pos) ∙ e) in
             record {
               after_root = pos;
-              at = sym (chosen ((position_of i order - 1) / fanout) (omega (arith, parent_before (position_of i order) pos, place_lt i h))) ∙ ap (λ (x : ℕ). position_of x order) same;
+              at = sym (place_of ((position_of i order - 1) / fanout) (omega (arith, parent_before (position_of i order) pos, place_lt i h))) ∙ ap (λ (x : ℕ). position_of x order) same;
             }

@@ -1,46 +1,27 @@
 -- All views of one list.
-use Rattle.std.proofs.Common.{◌≡◌, ℕ, zero, suc, ◌-◌, ◌/◌, ◌<◌, Bool, true, false, if◌then◌else◌, Option, Some, None, Result, Ok, Err, List, [], ◌∷◌, length, get_or, take, drop, refl, sym, ap, subst, ◌∙◌, arith, take_at, leb-false}
-use Rattle.std.specs.Prelude.{◌==◌, nat_lt, min}
-use Rattle.std.proofs.lemmas.Bool.{eqb-false, or_parts}
+use Rattle.std.proofs.Common.{◌≡◌, ℕ, zero, suc, ◌-◌, ◌/◌, ◌<◌, Option, Some, None, Result, Ok, Err, List, length, get_or, take, drop, refl, sym, ap, subst, ◌∙◌, arith, take_at}
 use Rattle.refusals.specs.declared.refusal.Refusal.{Refusal}
-use Rattle.refusals.specs.Refusal.{Check, first_of, list_length, fanout_limit, not_below, short_buffer}
+use Rattle.refusals.specs.Refusal.{first_of}
 use Rattle.draws.specs.Call.{after_checks, or_no_word}
-use Rattle.tree.specs.Sizes.{tree_size}
 use Rattle.weighted_shuffle.specs.Order.{order}
-use Rattle.shuffle_laws.specs.Orders.{count, IsOrder}
-use Rattle.shuffle_laws.proofs.WholeLemmas.{orders_whole}
-use Rattle.turbine.specs.declared.neighborhood.TurbineTree.{TurbineTree}
-use Rattle.turbine.specs.declared.view.View.{View}
+use Rattle.laws.specs.Counts.{count}
+use Rattle.laws.specs.Orders.{Permutation, ids_from}
+use Rattle.shuffle_laws.proofs.TotalLemmas.{orders_whole_by_totals}
+use Rattle.turbine.specs.declared.turbine_tree.TurbineTree.{TurbineTree}
+use Rattle.turbine.specs.declared.turbine_tree.View.{View}
 use Rattle.turbine.specs.View.{position_of, root_of, parent_at, children_at, Neighborhood, neighborhood}
-use Rattle.turbine.specs.Calls.{Lent, checks, viewed, view, told, tree_of}
+use Rattle.turbine.specs.Calls.{Lent, view_checks, seen_by, view, tree_of, answered}
 use Rattle.view_laws.specs.Views.{positions, root, Viewed, parent_of, children_of, Names, ChildOfOne, ViewsConsistent}
-use Rattle.view_laws.proofs.TreeLemmas.{id_of, place_lt, id_at, id_lt, chosen, lists, listed, names_none, names_some, names, named, parent_before}
+use Rattle.view_laws.proofs.TreeLemmas.{id_of, place_lt, id_at, id_lt, place_of, lists, listed, names_none, names_some, names, named, parent_before}
 use Rattle.view_laws.proofs.TreeLemmas as tree
-
--- a check that passed, and those after it
-passed : (check : Check) (rest : List Check) → first_of (check ∷ rest) ≡ Ok tt → (check.0 ≡ false) × (first_of rest ≡ Ok tt)
-passed (applies, refusal) rest e = go applies e
-  where
-    go : (b : Bool) → (if b then Err refusal else first_of rest) ≡ Ok tt → (b ≡ false) × (first_of rest ≡ Ok tt)
-    go true e = cc
-    go false e = (refl, e)
 
 -- what is known of a call that its input does not turn down
 record Admitted (n fanout own : ℕ) : Type 0 where
   fanout_some : 0 < fanout
   own_below : own < n
 
--- the checks of what is lent
-abbrev rooms : ℕ → ℕ → Lent → List Check
-rooms n fanout lent = short_buffer (length lent.0) n ∷ short_buffer (length lent.1) (tree_size n) ∷ short_buffer (length lent.2) (min fanout n) ∷ []
-
-admitted : (n fanout own : ℕ) (lent : Lent) → first_of (checks n fanout own lent) ≡ Ok tt → Admitted n fanout own
-admitted n fanout own lent e =
-    let a = passed (list_length n) (fanout_limit fanout ∷ not_below own n ∷ rooms n fanout lent) e in
-    let b = passed (fanout_limit fanout) (not_below own n ∷ rooms n fanout lent) a.1 in
-    let c = passed (not_below own n) (rooms n fanout lent) b.1 in
-    let some : fanout ≡ 0 → ⊥ = eqb-false fanout 0 (or_parts (nat_lt 4096 fanout) (fanout == 0) b.0).1 in
-    record { fanout_some = omega arith; own_below = leb-false n own c.0 }
+admitted : (n fanout own : ℕ) (lent : Lent) → first_of (view_checks n fanout own lent) ≡ Ok tt → Admitted n fanout own
+admitted n fanout own lent e = record { fanout_some = grind arith; own_below = grind arith }
 
 -- what an accepted call went through
 record Unrefused (fanout own : ℕ) (r : Result (Unit {0}) Refusal) (draw : Option (List ℕ) × List ℕ) (s : Neighborhood) : Type 0 where
@@ -49,7 +30,7 @@ record Unrefused (fanout own : ℕ) (r : Result (Unit {0}) Refusal) (draw : Opti
   drew : draw.0 ≡ Some ps
   is : neighborhood fanout own ps ≡ s
 
-unrefused : (fanout own : ℕ) (ws : List ℕ) (r : Result (Unit {0}) Refusal) (draw : Option (List ℕ) × List ℕ) (s : Neighborhood) → (after_checks r ws (or_no_word (viewed fanout own draw))).0 ≡ Ok s → Unrefused fanout own r draw s
+unrefused : (fanout own : ℕ) (ws : List ℕ) (r : Result (Unit {0}) Refusal) (draw : Option (List ℕ) × List ℕ) (s : Neighborhood) → (after_checks r ws (or_no_word (seen_by fanout own draw))).0 ≡ Ok s → Unrefused fanout own r draw s
 unrefused fanout own ws (Err refusal) draw s e = cc
 unrefused fanout own ws (Ok passed) (None, left) s e = cc
 unrefused fanout own ws (Ok passed) (Some ps, left) s e = record { passes = refl; ps = ps; drew = refl; is = cc }
@@ -69,7 +50,7 @@ module _ (stakes : List ℕ) (fanout : ℕ) (ws : List ℕ) where
   record Saw (own : ℕ) (v : Viewed stakes fanout ws own) : Type 0 where
     below : own < n
     some : 0 < fanout
-    permutes : IsOrder n ids
+    permutes : Permutation (ids_from 0 n) ids
     root_is : v.view.tree.root ≡ root_of ids
     parent_is : v.view.tree.parent ≡ parent_at fanout ids (position_of own ids)
     children_are : children_of stakes fanout ws v ≡ children_at fanout ids (position_of own ids)
@@ -78,12 +59,12 @@ module _ (stakes : List ℕ) (fanout : ℕ) (ws : List ℕ) where
   saw own v = go (view stakes fanout own lent ws) refl v.accepts
     where
       lent : Lent
-      lent = (v.order_held, v.nodes_held, v.children_held)
+      lent = v.held
 
-      go : (o : Result Neighborhood Refusal × List ℕ) → view stakes fanout own lent ws ≡ o → (told n lent ws o).0 ≡ Ok v.view → Saw own v
+      go : (o : Result Neighborhood Refusal × List ℕ) → view stakes fanout own lent ws ≡ o → (answered n lent ws o).0 ≡ Ok v.view → Saw own v
       go (Err r, left) q e = cc
       go (Ok s, left) q e =
-          let u = unrefused fanout own ws (first_of (checks n fanout own lent)) (order stakes ws) s (ap (λ (o : Result Neighborhood Refusal × List ℕ). o.0) q) in
+          let u = unrefused fanout own ws (first_of (view_checks n fanout own lent)) (order stakes ws) s (ap (λ (o : Result Neighborhood Refusal × List ℕ). o.0) q) in
           let a = admitted n fanout own lent u.passes in
           let is : ◌≡◌ {A = View} (record { tree = tree_of s; words_read = length ws - length left }) v.view = cc in
           let ids-are : ids ≡ u.ps = ap positions u.drew in
@@ -92,17 +73,17 @@ module _ (stakes : List ℕ) (fanout : ℕ) (ws : List ℕ) where
           record {
             below = a.own_below;
             some = a.fanout_some;
-            permutes = subst (λ (ps : List ℕ). IsOrder n ps) (sym ids-are) (orders_whole stakes ws u.ps u.drew).permutation;
+            permutes = subst (λ (ps : List ℕ). Permutation (ids_from 0 n) ps) (sym ids-are) (orders_whole_by_totals stakes ws u.ps u.drew).permutation;
             root_is = ap (λ (t : TurbineTree). t.root) tree_is;
             parent_is = ap (λ (t : TurbineTree). t.parent) tree_is;
             children_are =
-                ap (λ (o : Result Neighborhood Refusal × List ℕ). take v.view.tree.children (told n lent ws o).3) q
-                ∙ take_at s.children (drop (length s.children) v.children_held) v.view.tree.children (ap (λ (x : View). x.tree.children) is)
+                ap (λ (o : Result Neighborhood Refusal × List ℕ). take v.view.tree.children (answered n lent ws o).3) q
+                ∙ take_at s.children (drop (length s.children) v.held.2) v.view.tree.children (ap (λ (x : View). x.tree.children) is)
                 ∙ ap (λ (x : Neighborhood). x.children) (sym seen);
           }
 
   module _ (own : ℕ) (v : Viewed stakes fanout ws own) where
-    abbrev permutes : IsOrder n ids
+    abbrev permutes : Permutation (ids_from 0 n) ids
     permutes = (saw own v).permutes
 
     some_ids : 0 < n
@@ -112,7 +93,7 @@ module _ (stakes : List ℕ) (fanout : ℕ) (ws : List ℕ) where
     root-lt = id_lt n ids permutes 0 some_ids
 
     root_first : position_of (root stakes fanout ws) ids ≡ 0
-    root_first = chosen n ids permutes 0 some_ids
+    root_first = place_of n ids permutes 0 some_ids
 
     -- whoever is not the root stands after it
     after_root : (own ≡ root stakes fanout ws → ⊥) → 0 < position_of own ids
@@ -131,7 +112,7 @@ module _ (stakes : List ℕ) (fanout : ℕ) (ws : List ℕ) where
           id = get_or ids ((p - 1) / fanout) 0;
           is = (saw own v).parent_is ∙ names_some n ids permutes fanout some own pos;
           below = id_lt n ids permutes ((p - 1) / fanout) q-lt;
-          other = λ e. omega (arith, lower, chosen n ids permutes ((p - 1) / fanout) q-lt, ap (λ (i : ℕ). position_of i ids) e);
+          other = λ e. omega (arith, lower, place_of n ids permutes ((p - 1) / fanout) q-lt, ap (λ (i : ℕ). position_of i ids) e);
         }
 
   module _ (i j : ℕ) (v : Viewed stakes fanout ws i) (w : Viewed stakes fanout ws j) where
