@@ -1,0 +1,51 @@
+-- What a call tells a caller in C: 0 or the refusal's number, what the lent array `answer` then holds, and the other lent buffers. A call
+-- that is refused leaves what the array held.
+use Rattle.std.specs.Prelude.{ℕ, ◌-◌, ◌^◌, Option, Some, None, Result, Ok, Err, List, [], ◌∷◌}
+use Rattle.refusals.specs.declared.refusal.Refusal.{Refusal}
+use Rattle.refusals.specs.Refusal.{number_of}
+use Rattle.stake_weighted.specs.declared.sample.Sample.{Sample}
+use Rattle.stake_weighted.specs.declared.quorum.Quorum.{Quorum}
+use Rattle.tree.specs.declared.node.Node.{Node}
+use Rattle.tree.specs.declared.sizes.Sizes.{Sizes}
+use Rattle.weighted_shuffle.specs.declared.entry.Order.{Order}
+use Rattle.turbine.specs.declared.turbine_tree.View.{View}
+
+-- one validator: its id, the words read
+abbrev pub sample_told : List ℕ → Result Sample Refusal → ℕ × List ℕ
+sample_told held (Err refusal) = (number_of refusal, held)
+sample_told held (Ok s) = (0, s.id ∷ s.words_read ∷ [])
+
+-- a committee: the words read
+abbrev pub quorum_told : List ℕ → Result Quorum Refusal × List ℕ → ℕ × List ℕ × List ℕ
+quorum_told held (Err refusal, seats) = (number_of refusal, held, seats)
+quorum_told held (Ok q, seats) = (0, q.words_read ∷ [], seats)
+
+-- the nodes of a full tree, and those that have children: never refused
+abbrev pub sizes_told : Sizes → List ℕ
+sizes_told s = s.num_nodes ∷ s.tree_size ∷ []
+
+-- an order: the words read
+abbrev pub shuffle_told : List ℕ → Result Order Refusal × List ℕ × List Node → ℕ × List ℕ × List ℕ × List Node
+shuffle_told held (Err refusal, order, nodes) = (number_of refusal, held, order, nodes)
+shuffle_told held (Ok o, order, nodes) = (0, o.words_read ∷ [], order, nodes)
+
+-- the parent's id; for the root, which has none, the number that is no id
+abbrev pub parent_told : Option ℕ → ℕ
+parent_told None = 2 ^ 64 - 1
+parent_told (Some id) = id
+
+-- a view: the root's id, the parent's, the number of children, the words read
+abbrev pub view_told : List ℕ → Result View Refusal × List ℕ × List Node × List ℕ → ℕ × List ℕ × List ℕ × List Node × List ℕ
+view_told held (Err refusal, order, nodes, children) = (number_of refusal, held, order, nodes, children)
+view_told held (Ok v, order, nodes, children) =
+    (0, v.tree.root ∷ parent_told v.tree.parent ∷ v.tree.children ∷ v.words_read ∷ [], order, nodes, children)
+
+-- a seed carries nothing
+abbrev pub seed_told : Result (Unit {0}) Refusal × List ℕ → ℕ × List ℕ
+seed_told (Err refusal, seed) = (number_of refusal, seed)
+seed_told (Ok written, seed) = (0, seed)
+
+-- a relay: its id
+abbrev pub relay_told : List ℕ → Result ℕ Refusal → ℕ × List ℕ
+relay_told held (Err refusal) = (number_of refusal, held)
+relay_told held (Ok id) = (0, id ∷ [])
