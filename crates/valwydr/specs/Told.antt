@@ -5,6 +5,8 @@ use Rattle.refusals.specs.declared.refusal.Refusal.{Refusal}
 use Rattle.refusals.specs.Refusal.{number_of}
 use Rattle.stake_weighted.specs.declared.sample.Sample.{Sample}
 use Rattle.stake_weighted.specs.declared.quorum.Quorum.{Quorum}
+use Rattle.partition.specs.declared.quorum.Partition.{Partition}
+use Rattle.partition.specs.Calls.{Lent}
 use Rattle.tree.specs.declared.node.Node.{Node}
 use Rattle.tree.specs.declared.sizes.Sizes.{Sizes}
 use Rattle.weighted_shuffle.specs.declared.entry.Order.{Order}
@@ -19,6 +21,11 @@ sample_told held (Ok s) = (0, s.id ∷ s.words_read ∷ [])
 abbrev pub quorum_told : List ℕ → Result Quorum Refusal × List ℕ → ℕ × List ℕ × List ℕ
 quorum_told held (Err refusal, seats) = (number_of refusal, held, seats)
 quorum_told held (Ok q, seats) = (0, q.words_read ∷ [], seats)
+
+-- a partition: the number of pieces, the words read of each list
+abbrev pub partition_told : List ℕ → Result Partition Refusal × Lent → ℕ × List ℕ × Lent
+partition_told held (Err refusal, lent) = (number_of refusal, held, lent)
+partition_told held (Ok p, lent) = (0, p.pieces ∷ p.first_words_read ∷ p.second_words_read ∷ [], lent)
 
 -- the nodes of a full tree, and those that have children: never refused
 abbrev pub sizes_told : Sizes → List ℕ

@@ -4,6 +4,7 @@
 //! a refused call leaves it, and every other lent buffer, as it was.
 #![tactic(auto)]
 
+mod committees;
 mod iid;
 mod orders;
 mod relays;
