@@ -36,6 +36,7 @@ pub fn shuffle<W: WordSource + Drop>(
 }
 
 /// The same for buffers that are known to be long enough, by lent words.
+#[tactic(auto, using(tree::proofs::SizeLemmas::size_64, tree::proofs::SizeLemmas::size_1024, tree::proofs::SizeLemmas::shape))]
 pub fn shuffle_into<W: WordSource>(
     weights: &[u64],
     words: &mut W,
