@@ -1,6 +1,7 @@
 -- What a draw that gave a value went through, and the words that draws leave.
-use Rattle.std.proofs.Common.{◌≡◌, ℕ, zero, suc, ◌+◌, ◌-◌, ◌%◌, ◌<◌, ◌≤◌, Bool, true, false, if◌then◌else◌, Option, Some, None, List, [], ◌∷◌, length, sum, swap, refl, subst, arith, mod-lt, le_trans}
+use Rattle.std.proofs.Common.{◌≡◌, ℕ, zero, suc, ◌+◌, ◌-◌, ◌%◌, ◌<◌, ◌≤◌, Bool, true, false, if◌then◌else◌, Option, Some, None, List, [], ◌∷◌, length, Float, sum, swap, refl, subst, arith, mod-lt, le_trans}
 use Rattle.words.specs.Draw.{next_word, after, and_then}
+use Rattle.draws.specs.declared.weighted.Place.{Place}
 use Rattle.draws.specs.Below.{is_skipped, below}
 use Rattle.draws.specs.Weighted.{place_of, Placed}
 use Rattle.draws.specs.Shuffle.{shuffle_from}
@@ -45,24 +46,20 @@ below_leaves m (w ∷ ws) = go (is_skipped m w) (below_leaves m ws)
     go true ih = omega (arith, ih)
     go false ih = omega arith
 
-pub and_then_leaves : {A B : Type 0} (n : ℕ) (draw : Option A × List ℕ) (next : A → List ℕ → Option B × List ℕ) → length draw.1 ≤ n →
-    ((a : A) (left : List ℕ) → length (next a left).1 ≤ length left) → length (and_then draw next).1 ≤ n
-and_then_leaves n (None, left) next few rest = few
-and_then_leaves n (Some a, left) next few rest = le_trans (rest a left) few
+pub after_leaves : {A R : Type 0} (words : R → List ℕ) (n : ℕ) (draw : Option A × List ℕ) (none : List ℕ → R) (some : A → List ℕ → R) → length draw.1 ≤ n →
+    ((left : List ℕ) → length (words (none left)) ≤ length left) → ((a : A) (left : List ℕ) → length (words (some a left)) ≤ length left) → length (words (after draw none some)) ≤ n
+after_leaves words n (None, left) none some few stop next = le_trans (stop left) few
+after_leaves words n (Some a, left) none some few stop next = le_trans (next a left) few
 
 shuffle_leaves : (m i : ℕ) (items ws : List ℕ) → length (shuffle_from m i items ws).2 ≤ length ws
 shuffle_leaves zero i items ws = omega arith
-shuffle_leaves (suc m) i items ws = go (below (i + 1) ws) (below_leaves (i + 1) ws) (λ j left. shuffle_leaves m (i + 1) (swap items i j) left)
-  where
-    go : (draw : Option ℕ × List ℕ) → length draw.1 ≤ length ws → ((j : ℕ) (left : List ℕ) → length (shuffle_from m (i + 1) (swap items i j) left).2 ≤ length left) →
-        length (after draw (λ left. (None, items, left)) (λ j left. shuffle_from m (i + 1) (swap items i j) left)).2 ≤ length ws
-    go (None, left) few rest = few
-    go (Some j, left) few rest = le_trans (rest j left) few
+shuffle_leaves (suc m) i items ws =
+    after_leaves (λ r. r.2) (length ws) (below _ ws) (λ left. (None, items, left)) (λ j left. shuffle_from m (i + 1) (swap items i j) left) (below_leaves _ ws) (λ left. omega arith) (λ j left. shuffle_leaves m (i + 1) (swap items i j) left)
 
 pub draws_read_only : DrawsReadOnly
 draws_read_only ws = record {
   of_below = λ m. below_leaves m ws;
-  of_fraction = and_then_leaves (length ws) (next_word ws) _ (next_word_leaves ws) (λ w left. omega arith);
-  of_weighted = λ weights. and_then_leaves (length ws) (below (sum weights) ws) _ (below_leaves (sum weights) ws) (λ v left. omega arith);
+  of_fraction = after_leaves (λ (r : Option Float × List ℕ). r.1) (length ws) (next_word ws) _ _ (next_word_leaves ws) (λ left. omega arith) (λ w left. omega arith);
+  of_weighted = λ weights. after_leaves (λ (r : Option Place × List ℕ). r.1) (length ws) (below (sum weights) ws) _ _ (below_leaves (sum weights) ws) (λ left. omega arith) (λ v left. omega arith);
   of_shuffle = λ items. shuffle_leaves (length items - 1) 1 items ws;
 }

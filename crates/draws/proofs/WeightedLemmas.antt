@@ -43,7 +43,7 @@ chosen_at (w ∷ weights) v (suc at) is =
     })))
 
 pub chosen_placed : (weights : List ℕ) (v : ℕ) → v < sum weights → Placed weights (place_of weights v)
-chosen_placed weights v low = let there = chosen_is weights v low in record { within = there.within; below_weight = there.below_weight }
+chosen_placed weights v low = let there = chosen_is weights v low in record { within = there.within; below_weight = omega (arith, there.below_weight) }
 
 pub gives_back : PlacesGiveBack
 gives_back weights v low = record { placed = chosen_placed weights v low; value_back = omega (arith, (chosen_is weights v low).reached) }
