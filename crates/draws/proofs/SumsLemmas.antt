@@ -95,6 +95,9 @@ sum_before sums weights total at are_sums shown within some =
       is = omega (arith, sum_up_to 0 (at - 1) sums are_sums.never_fall within_sums, ap (λ (ws : List ℕ). sum (take (suc (at - 1)) ws)) shown, ap (λ k. sum (take k weights)) last);
     }
 
+pub total_shown : (sums weights : List ℕ) (total : ℕ) → AreSums sums total → differences 0 sums ≡ weights → total ≡ sum weights
+total_shown sums weights total are_sums shown = are_sums.is ∙ ap sum shown
+
 -- what the search of the running sums finds
 pub record Found (weights : List ℕ) (v at : ℕ) : Type 0 where
   pub is : at ≡ chosen weights v

@@ -51,6 +51,7 @@ impl<'a> Weights<'a> {
     }
 
     /// The sum of the weights.
+    #[tactic(auto, using(crate::proofs::SumsLemmas::total_shown))]
     pub fn total(&self) -> u64
         ensures value { result ≡ sum self.now }
         ensures some { 0 < result }

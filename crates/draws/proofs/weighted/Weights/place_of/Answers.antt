@@ -1,7 +1,6 @@
-use Rattle.std.proofs.Common.{ap, arith, sym, subst}
-use Rattle.std.specs.Prelude.{sum}
+use Rattle.std.proofs.Common.{arith, sym, subst}
 use Rattle.draws.specs.Weighted.{Placed}
-use Rattle.draws.proofs.SumsLemmas.{found, place_made, never_fall_between, last_sum}
+use Rattle.draws.proofs.SumsLemmas.{found, place_made, never_fall_between, last_sum, total_shown}
 use Rattle.draws.proofs.WeightedLemmas.{chosen_placed}
 use Rattle.draws.proofs.weighted.Weights.place_of.Goals as goal
 
@@ -9,7 +8,7 @@ pub first_above-at-requires-clause-sorted : goal.first_above-at-requires-clause-
 first_above-at-requires-clause-sorted c = never_fall_between 0 _ c.self.invariant.never_fall
 
 pub first_above-at-requires-clause-above : goal.first_above-at-requires-clause-above
-first_above-at-requires-clause-above c = omega (arith, (last_sum _ _ c.self.invariant).1, c.self.invariant.is, ap sum c.self.view_is)
+first_above-at-requires-clause-above c = omega (arith, (last_sum _ _ c.self.invariant).1, total_shown _ _ _ c.self.invariant c.self.view_is)
 
 pub sum_before-requires : goal.sum_before-requires
 sum_before-requires c = (found _ _ _ c.args.v _ c.self.invariant c.self.view_is c.requires c.first_above-at.ensures.is_in).chosen_there.within
