@@ -8,10 +8,12 @@ use sorted::first_above;
 use std::marker::Model;
 use words::WordSource;
 
-/// A place among weights, and the value that was drawn less the running sum before it.
+/// A place among weights, as a drawn value chooses it.
 #[derive(Clone, Copy, Debug, PartialEq, Eq)]
 pub struct Place {
+    /// The place: an id below the number of weights.
     pub at: usize,
+    /// The value less the running sum before the place: below the weight there.
     pub remainder: u64,
 }
 
@@ -34,7 +36,7 @@ impl<'a> Model for Weights<'a> {
 }
 
 impl<'a> Weights<'a> {
-    /// Sums up the weights in lent space.
+    /// Sums up the weights into `sums`, a place for each. Refused with `SumPast` where they sum past 64 bits, and with `TotalZero` where to 0.
     pub fn new(weights: &[u64], sums: &'a mut [u64]) -> Result<Self, Refusal>
         requires { length weights.now ≡ length sums.old }
         ensures { result ≡ unless (first_of (sum_checks weights.now)) (Ok weights.now) }
@@ -83,7 +85,7 @@ impl<'a> Weights<'a> {
     }
 }
 
-/// The same by a walk over the weights, for one draw alone: it needs no running sums.
+/// The place that a value chooses, by a walk over the weights: one draw alone needs no running sums.
 #[tactic(auto, using(crate::proofs::WeightedLemmas::walked_to))]
 pub fn walked_place(weights: &[u64], v: u64) -> Place
     requires { v < sum weights.now }
@@ -101,7 +103,7 @@ pub fn walked_place(weights: &[u64], v: u64) -> Place
     place
 }
 
-/// A place among the weights, each for as many values as its weight counts; `None` where the words run out.
+/// A place among the weights, each for as many values as its weight counts, by a draw below their sum; `None` where the words run out.
 #[inline(always)]
 pub fn draw_weighted<W: WordSource>(words: &mut W, weights: &Weights) -> Option<Place>
     ensures drawn { (result, W.words words.new) ≡ weighted weights.now (W.words words.old) }
@@ -109,4 +111,57 @@ pub fn draw_weighted<W: WordSource>(words: &mut W, weights: &Weights) -> Option<
 {
     let v = draw_below(words, weights.total())?;
     Some(weights.place_of(v))
+}
+
+#[cfg(test)]
+mod tests {
+    use super::*;
+    use words::ListWords;
+
+    #[test]
+    fn values_choose_places_with_weight(rt: HostRuntime) {
+        let mut sums = [0; 4];
+        let weights = Weights::new(&[0, 3, 0, 2], &mut sums);
+        assert!(rt; weights.is_ok());
+        if let Ok(weights) = weights {
+            assert_eq!(rt; weights.total(), 5);
+            assert_eq!(rt;
+                weights.place_of(2),
+                Place {
+                    at: 1,
+                    remainder: 2
+                }
+            );
+            assert_eq!(rt;
+                weights.place_of(3),
+                Place {
+                    at: 3,
+                    remainder: 0
+                }
+            );
+            let mut words = ListWords::new(&[9, 7], 0);
+            assert_eq!(rt;
+                draw_weighted(&mut words, &weights),
+                Some(Place {
+                    at: 3,
+                    remainder: 1
+                })
+            );
+            assert_eq!(rt;
+                draw_weighted(&mut words, &weights),
+                Some(Place {
+                    at: 1,
+                    remainder: 2
+                })
+            );
+            assert_eq!(rt; draw_weighted(&mut words, &weights), None);
+        }
+        assert_eq!(rt;
+            walked_place(&[0, 3, 0, 2], 4),
+            Place {
+                at: 3,
+                remainder: 1
+            }
+        );
+    }
 }
