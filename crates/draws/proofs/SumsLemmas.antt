@@ -5,6 +5,8 @@ use borrow.Author.Tests.{lt-leb}
 use Rattle.refusals.specs.Refusal.{first_of, sum_checks, unless}
 use Rattle.std.specs.Prelude.{sum}
 use Rattle.std.proofs.lemmas.List.Sums.{sum_by-cons}
+use Rattle.laws.specs.Sums.{running_from}
+use Rattle.draws.specs.Laws.{WeightsHoldRunningSums}
 use Rattle.draws.specs.Sums.{differences, NeverFall, AreSums}
 use Rattle.draws.proofs.WeightedLemmas.{IsChosen, chosen_is}
 use Rattle.sorted.specs.Search.{IsIn}
@@ -141,3 +143,10 @@ finished i s weights sums to same end some =
       are_sums = record { never_fall = known.1; is = rw known.0 whole; some = omega arith };
       answer = rw (known.0, lt-leb (2 ^ 64) (sum weights) (omega (arith, to.fits)), ne_eqb (sum weights) 0 (λ e. some (whole ∙ e)));
     }
+
+running_back : (before : ℕ) (sums : List ℕ) → NeverFall before sums → sums ≡ running_from before (differences before sums)
+running_back before [] never_fall = refl
+running_back before (s ∷ sums) never_fall = let here : before + (s - before) ≡ s = omega (arith, never_fall.0) in rw here (ap (s ∷◌) (running_back s sums never_fall.1))
+
+pub holds_running_sums : WeightsHoldRunningSums
+holds_running_sums sums total are_sums = running_back 0 sums are_sums.never_fall

@@ -2,6 +2,7 @@
 use Rattle.std.specs.Prelude.{◌≡◌, ℕ, suc, ◌+◌, ◌-◌, ◌<◌, ◌≤◌, if◌then◌else◌, Some, List, [], ◌∷◌, ◌++◌, length, take, nat_lt, sum, IsPermutation}
 use Rattle.laws.specs.Sums.{running_sums}
 use Rattle.draws.specs.declared.weighted.Place.{Place}
+use Rattle.draws.specs.Sums.{differences, AreSums}
 use Rattle.draws.specs.Below.{below}
 use Rattle.draws.specs.Fraction.{fraction}
 use Rattle.draws.specs.Weighted.{chosen, remainder, place_of, weighted, Placed}
@@ -19,6 +20,10 @@ first_above (x ∷ xs) v = (if nat_lt v x then 0 else suc (first_above xs v))
 -- "the smallest place whose running sum exceeds v"
 abbrev pub ChosenIsFirstAbove : Type 0
 ChosenIsFirstAbove = (weights : List ℕ) (v : ℕ) → chosen weights v ≡ first_above (running_sums weights) v
+
+-- what `Weights` holds are the running sums of the weights that it shows
+abbrev pub WeightsHoldRunningSums : Type 0
+WeightsHoldRunningSums = (sums : List ℕ) (total : ℕ) → AreSums sums total → sums ≡ running_sums (differences 0 sums)
 
 -- of a value below the sum, the remainder is below the weight at the place, and both give the value back
 pub record GivesBack (weights : List ℕ) (v : ℕ) : Type 0 where

@@ -1,6 +1,7 @@
 //! What is promised of all draws: each function does nothing, and its contract is a law.
 ghost use Rattle.draws.specs.Fairness.{BelowFair, FractionFair, WeightedFair, WeightedFairWhere, ShuffleFair};
-ghost use Rattle.draws.specs.Laws.{BelowLow, ChosenIsFirstAbove, PlacesGiveBack, ValuesChooseInParts, WeightedPlaced, ShufflePermutes, ShuffledByDraws, DrawsReadOnly};
+ghost use Rattle.draws.specs.Laws.{BelowLow, ChosenIsFirstAbove, WeightsHoldRunningSums, PlacesGiveBack, ValuesChooseInParts};
+ghost use Rattle.draws.specs.Laws.{WeightedPlaced, ShufflePermutes, ShuffledByDraws, DrawsReadOnly};
 
 /// Each value below m is drawn for equally many words.
 #[tactic(auto, using(crate::proofs::Fairness::below_fair))]
@@ -36,6 +37,12 @@ pub fn weighted_draws_are_fair_where()
 #[tactic(auto, using(crate::proofs::WeightedLemmas::chosen_first_above))]
 pub fn chosen_is_first_above()
     ensures { ChosenIsFirstAbove }
+{}
+
+/// Weights are held by their running sums.
+#[tactic(auto, using(crate::proofs::SumsLemmas::holds_running_sums))]
+pub fn weights_hold_running_sums()
+    ensures { WeightsHoldRunningSums }
 {}
 
 /// A place and its remainder give the value back.
