@@ -1,8 +1,8 @@
 -- What a call of `TurbineTree::new` gives: the first refusal that applies, else the view.
-use Rattle.std.specs.Prelude.{ℕ, ◌-◌, min, Option, Some, Result, Ok, Err, List, [], ◌∷◌, ◌++◌, length, drop}
+use Rattle.std.specs.Prelude.{ℕ, min, Option, Some, Result, Ok, Err, List, [], ◌∷◌, ◌++◌, length, drop}
 use Rattle.refusals.specs.declared.refusal.Refusal.{Refusal}
 use Rattle.refusals.specs.Refusal.{Check, first_of, list_length, fanout_limit, not_below, short_buffer}
-use Rattle.words.specs.Draw.{and_then}
+use Rattle.words.specs.Draw.{and_then, words_read}
 use Rattle.draws.specs.Call.{after_checks, or_no_word}
 use Rattle.tree.specs.declared.node.Node.{Node}
 use Rattle.tree.specs.Sizes.{tree_size}
@@ -46,7 +46,7 @@ written values held = values ++ drop (length values) held
 abbrev pub answered : ℕ → Lent → List ℕ → Result Neighborhood Refusal × List ℕ → Result View Refusal × List ℕ × List Node × List ℕ
 answered n (held, nodes, kept) ws (Err refusal, left) = (Err refusal, held, nodes, kept)
 answered n (held, nodes, kept) ws (Ok v, left) = (
-  Ok (record { tree = tree_of v; words_read = length ws - length left }),
+  Ok (record { tree = tree_of v; words_read = words_read ws left }),
   written v.order held,
   nodes_after (tree_size n) nodes,
   written v.children kept,
