@@ -5,6 +5,8 @@ use Rattle.refusals.specs.declared.refusal.Refusal.{Refusal}
 use Rattle.refusals.specs.Refusal.{number_of}
 use Rattle.stake_weighted.specs.declared.sample.Sample.{Sample}
 use Rattle.stake_weighted.specs.declared.quorum.Quorum.{Quorum}
+use Rattle.decaying_acceptance.specs.declared.sampler.Sample.{Sample as TriedSample}
+use Rattle.decaying_acceptance.specs.declared.sampler.Quorum.{Quorum as TriedQuorum}
 use Rattle.partition.specs.declared.quorum.Partition.{Partition}
 use Rattle.partition.specs.Calls.{Lent}
 use Rattle.tree.specs.declared.node.Node.{Node}
@@ -21,6 +23,16 @@ sample_told held (Ok s) = (0, s.id ∷ s.words_read ∷ [])
 abbrev pub quorum_told : List ℕ → Result Quorum Refusal × List ℕ → ℕ × List ℕ × List ℕ
 quorum_told held (Err refusal, seats) = (number_of refusal, held, seats)
 quorum_told held (Ok q, seats) = (0, q.words_read ∷ [], seats)
+
+-- one validator by decaying acceptance: its id, the tries, the words read
+abbrev pub tried_told : List ℕ → Result TriedSample Refusal × List ℕ → ℕ × List ℕ × List ℕ
+tried_told held (Err refusal, counts) = (number_of refusal, held, counts)
+tried_told held (Ok s, counts) = (0, s.id ∷ s.tries ∷ s.words_read ∷ [], counts)
+
+-- a committee by decaying acceptance: the tries, the words read
+abbrev pub tried_quorum_told : List ℕ → Result TriedQuorum Refusal × List ℕ × List ℕ → ℕ × List ℕ × List ℕ × List ℕ
+tried_quorum_told held (Err refusal, counts, seats) = (number_of refusal, held, counts, seats)
+tried_quorum_told held (Ok q, counts, seats) = (0, q.tries ∷ q.words_read ∷ [], counts, seats)
 
 -- a partition: the number of pieces, the words read of each list
 abbrev pub partition_told : List ℕ → Result Partition Refusal × Lent → ℕ × List ℕ × Lent

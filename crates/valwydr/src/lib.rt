@@ -5,6 +5,7 @@
 #![tactic(auto)]
 
 mod committees;
+mod decaying;
 mod iid;
 mod orders;
 mod relays;

@@ -1,0 +1,72 @@
+ghost use Rattle.std.specs.Prelude.{◌≡◌, length, drop, replicate};
+ghost use Rattle.decaying_acceptance.specs.Calls.{sample_one, sample_quorum};
+ghost use Rattle.valwydr.specs.Told.{tried_told, tried_quorum_told};
+
+use decaying_acceptance::DecayingAcceptanceSampler;
+use words::ListWords;
+
+/// One validator, whose count rises by 1. The answer: its id, the tries made, the words read.
+#[unsafe(no_mangle)]
+pub extern "C" fn valwydr_decaying_acceptance_sample_one(
+    max_samples: f64,
+    tries_allowed: usize,
+    stakes: &[u64],
+    counts: &mut [u32],
+    list: &[u64],
+    cursor: usize,
+    answer: &mut [u64; 3],
+) -> u64
+    ensures { (result, answer.new, counts.new)
+        ≡ tried_told answer.old
+        (sample_one (record { max_samples = max_samples; tries_allowed = tries_allowed; k = 1 }) stakes.now counts.old (drop cursor list.now)) }
+{
+    let sampler = DecayingAcceptanceSampler::new(max_samples, tries_allowed, 1);
+    match sampler.sample_one(stakes, counts, ListWords::new(list, cursor)) {
+        Ok(sample) => {
+            *answer = [
+                sample.id.inner(),
+                sample.tries as u64,
+                sample.words_read as u64,
+            ];
+            0
+        }
+        Err(refusal) => refusal.number(),
+    }
+}
+
+/// A committee of `k`, written to the front of `seats`; the counts of the list's validators are then 0. The answer: the tries made over all
+/// seats, the words read.
+#[unsafe(no_mangle)]
+pub extern "C" fn valwydr_decaying_acceptance_sample_quorum(
+    max_samples: f64,
+    tries_allowed: usize,
+    k: usize,
+    stakes: &[u64],
+    counts: &mut [u32],
+    list: &[u64],
+    cursor: usize,
+    seats: &mut [u64],
+    answer: &mut [u64; 2],
+) -> u64
+    ensures { (result, answer.new, counts.new, seats.new)
+        ≡ tried_quorum_told answer.old
+        (sample_quorum (record { max_samples = max_samples; tries_allowed = tries_allowed; k = k }) stakes.now counts.old seats.old (drop cursor list.now)) }
+{
+    let sampler = DecayingAcceptanceSampler::new(max_samples, tries_allowed, k);
+    match sampler.sample_quorum(stakes, counts, ListWords::new(list, cursor), seats) {
+        Ok(quorum) => {
+            *answer = [quorum.tries as u64, quorum.words_read as u64];
+            0
+        }
+        Err(refusal) => refusal.number(),
+    }
+}
+
+/// Sets all the counts to 0.
+#[unsafe(no_mangle)]
+pub extern "C" fn valwydr_decaying_acceptance_reset(counts: &mut [u32])
+    ensures { counts.new ≡ replicate (length counts.old) 0 }
+{
+    let sampler = DecayingAcceptanceSampler::new(1.0, 1, 0);
+    sampler.reset(counts);
+}
