@@ -121,6 +121,10 @@ pub record Stored (columns new : Columns) (count place : ℕ) (piece : Piece) : 
   pub put : 0 < piece.stake → PutAt columns new count piece
   pub same : SameLoans columns new
 
+-- the stake of the piece is the stake itself, or the room that the bin has
+pub stored_as : (columns new : Columns) (count place bin v s t : ℕ) → s ≡ t → Stored columns new count place (record { bin = bin; validator = v; stake = s }) → Stored columns new count place (record { bin = bin; validator = v; stake = t })
+stored_as columns new count place bin v s t same stored = subst (λ (n : ℕ). Stored columns new count place (record { bin = bin; validator = v; stake = n })) same stored
+
 same_loans : (old columns new : Columns) → SameLoans old columns → SameLoans columns new → SameLoans old new
 same_loans old columns new first second = record {
   bins = second.bins ∙ first.bins;

@@ -45,25 +45,18 @@ pub fn fill(
     // A stake may be split among bins, so a step is a piece and no item of a list.
     while at < order.len() {
         let validator = order[at];
-        let weight = weights[validator as usize];
-        let stake = weight - used;
+        let stake = weights[validator as usize] - used;
+        let piece = Piece {
+            bin,
+            validator,
+            stake: stake.min(room),
+        };
+        count = put_some(columns, count, piece);
         if stake <= room {
-            let piece = Piece {
-                bin,
-                validator,
-                stake,
-            };
-            count = put_some(columns, count, piece);
             room -= stake;
             used = 0;
             at += 1;
         } else {
-            let piece = Piece {
-                bin,
-                validator,
-                stake: room,
-            };
-            count = put_some(columns, count, piece);
             used += room;
             room = capacity;
             bin += 1;
