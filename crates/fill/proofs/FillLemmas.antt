@@ -1,5 +1,5 @@
 -- The fill rule, one step of its loop at a time.
-use Rattle.std.proofs.Common.{◌≡◌, ℕ, zero, suc, ◌+◌, ◌-◌, ◌*◌, ◌<◌, ◌≤◌, Bool, true, false, if◌then◌else◌, List, [], ◌∷◌, ◌++◌, length, get_or, drop, refl, sym, ap, subst, ◌∙◌, arith, append_assoc, append-nil, le-leb, suc-mul}
+use Rattle.std.proofs.Common.{◌≡◌, ℕ, zero, suc, ◌+◌, ◌-◌, ◌*◌, ◌<◌, ◌≤◌, min, Bool, true, false, if◌then◌else◌, List, [], ◌∷◌, ◌++◌, length, get_or, drop, refl, sym, ap, subst, ◌∙◌, arith, append_assoc, append-nil, le-leb, suc-mul}
 use Rattle.std.specs.Prelude.{◌==◌}
 use Rattle.std.proofs.lemmas.Bool.{eqb-false}
 use Rattle.std.proofs.Common.{length-append}
@@ -9,7 +9,7 @@ use Rattle.std.proofs.Math.Seq.{drop-cons}
 use Rattle.std.proofs.lemmas.List.{drop_all}
 use Rattle.fill.specs.declared.piece.Piece.{Piece}
 use Rattle.fill.specs.declared.columns.Columns.{Columns}
-use Rattle.fill.specs.Columns.{HaveRoom, SameLoans, PutAt, Begin}
+use Rattle.fill.specs.Columns.{HaveRoom, SameLoans, PutAt, Stored, Begin}
 use Rattle.fill.proofs.PieceLemmas.{begin-more}
 use Rattle.fill.specs.Fill.{Share, in_order, share_stakes, bin_total, put, taken, left, fill, numbered, pieces}
 
@@ -58,18 +58,17 @@ pieces-none capacity j zero = refl
 pieces-none capacity j (suc b) = pieces-none capacity (j + 1) b
 
 -- what storing a piece at the end of the front leaves
-pub put_step : (old columns new : Columns) (front : List Piece) (count place : ℕ) (piece : Piece) → count ≡ length front → HaveRoom old (count + 1) → Begin old columns front →
-    place ≡ (if piece.stake == 0 then count else (count + 1)) → (piece.stake ≡ 0 → new ≡ columns) → (0 < piece.stake → PutAt columns new count piece) →
+put_step : (old columns new : Columns) (front : List Piece) (count place : ℕ) (piece : Piece) → count ≡ length front → HaveRoom old (count + 1) → Begin old columns front → Stored columns new count place piece →
     Begin old new (front ++ added piece) × (place ≡ length (front ++ added piece)) × (place ≤ count + 1)
-put_step old columns new front count place piece at_end room begin placed none some = go (piece.stake == 0) refl placed
+put_step old columns new front count place piece at_end room begin stored = go (piece.stake == 0) refl stored.next
   where
     go : (b : Bool) → (piece.stake == 0) ≡ b → place ≡ (if b then count else (count + 1)) →
         Begin old new (front ++ (if b then [] else (piece ∷ []))) × (place ≡ length (front ++ (if b then [] else (piece ∷ [])))) × (place ≤ count + 1)
     go true zero_stake here =
-        (rw (append-nil front, none (eqb-true piece.stake 0 zero_stake)) begin, rw (append-nil front) (here ∙ at_end), omega arith)
+        (rw (append-nil front, stored.none (eqb-true piece.stake 0 zero_stake)) begin, rw (append-nil front) (here ∙ at_end), omega arith)
     go false stake here =
         let positive : 0 < piece.stake = (let h : piece.stake ≡ 0 → ⊥ = eqb-false piece.stake 0 stake in omega arith) in (
-          begin-more old columns new front piece (subst (λ (n : ℕ). HaveRoom old (n + 1)) at_end room) begin (subst (λ (n : ℕ). PutAt columns new n piece) at_end (some positive)),
+          begin-more old columns new front piece (subst (λ (n : ℕ). HaveRoom old (n + 1)) at_end room) begin (subst (λ (n : ℕ). PutAt columns new n piece) at_end (stored.put positive)),
           omega (arith, length-append front (piece ∷ [])),
           omega arith,
         )
@@ -114,15 +113,8 @@ another_bin : (b capacity room n : ℕ) → room < n → n ≤ room + b * capaci
 another_bin zero capacity room n large fits = absurd (omega arith)
 another_bin (suc b) capacity room n large fits = omega arith
 
--- the loop is at this place, and stores a piece
-pub record Stored (columns new : Columns) (count place : ℕ) (piece : Piece) : Type 0 where
-  pub placed : place ≡ (if piece.stake == 0 then count else (count + 1))
-  pub none : piece.stake ≡ 0 → new ≡ columns
-  pub put : 0 < piece.stake → PutAt columns new count piece
-  pub same : SameLoans columns new
-
 -- the stake of the piece is the stake itself, or the room that the bin has
-pub stored_as : (columns new : Columns) (count place bin v s t : ℕ) → s ≡ t → Stored columns new count place (record { bin = bin; validator = v; stake = s }) → Stored columns new count place (record { bin = bin; validator = v; stake = t })
+stored_as : (columns new : Columns) (count place bin v s t : ℕ) → s ≡ t → Stored columns new count place (record { bin = bin; validator = v; stake = s }) → Stored columns new count place (record { bin = bin; validator = v; stake = t })
 stored_as columns new count place bin v s t same stored = subst (λ (n : ℕ). Stored columns new count place (record { bin = bin; validator = v; stake = n })) same stored
 
 same_loans : (old columns new : Columns) → SameLoans old columns → SameLoans columns new → SameLoans old new
@@ -137,21 +129,22 @@ more_room old count at bin n bins few within low room = record { bins = omega (a
 
 pub step_whole : (old columns new : Columns) (weights order : List ℕ) (capacity bins count bin room at used place : ℕ) → FilledTo old columns weights order capacity bins count bin room at used →
     HaveRoom old (length order + bins) → at < length order →
-    get_or weights (get_or order at 0) 0 - used ≤ room → Stored columns new count place (record { bin = bin; validator = get_or order at 0; stake = get_or weights (get_or order at 0) 0 - used }) →
+    get_or weights (get_or order at 0) 0 - used ≤ room → (part : ℕ) → part ≡ min (get_or weights (get_or order at 0) 0 - used) room →
+    Stored columns new count place (record { bin = bin; validator = get_or order at 0; stake = part }) → SameLoans columns new →
     FilledTo old new weights order capacity bins place bin (room - (get_or weights (get_or order at 0) 0 - used)) (at + 1) 0
-step_whole old columns new weights order capacity bins count bin room at used place to places within small stored =
+step_whole old columns new weights order capacity bins count bin room at used place to places within small part is stored loans =
     let v = get_or order at 0 in
     let w = get_or weights v 0 in
     let b = bins - (bin + 1) in
     let xs = in_order weights (drop (at + 1) order) in
     let piece : Piece = record { bin = bin; validator = v; stake = w - used } in
     let head : reduced used (in_order weights (drop at order)) ≡ record { validator = v; stake = w - used } ∷ xs = shares_at weights order at used within in
-    let put = put_step old columns new to.front count place piece to.count_is (more_room old count at bin (length order) bins to.few within to.bin_low places) to.begin stored.placed stored.none stored.put in
+    let put = put_step old columns new to.front count place piece to.count_is (more_room old count at bin (length order) bins to.few within to.bin_low places) to.begin (stored_as columns new count place bin v part piece.stake (omega arith) stored) in
     record {
       front = to.front ++ added piece;
       count_is = put.1;
       begin = put.0;
-      same = same_loans old columns new to.same stored.same;
+      same = same_loans old columns new to.same loans;
       whole =
           ap (λ (rest : List Share). (to.front ++ added piece) ++ to_come capacity bin (room - (w - used)) b rest) (reduced-zero xs)
           ∙ append_assoc to.front (added piece) (to_come capacity bin (room - (w - used)) b xs)
@@ -165,9 +158,10 @@ step_whole old columns new weights order capacity bins count bin room at used pl
 
 pub step_part : (old columns new : Columns) (weights order : List ℕ) (capacity bins count bin room at used place : ℕ) → FilledTo old columns weights order capacity bins count bin room at used →
     HaveRoom old (length order + bins) → at < length order →
-    room < get_or weights (get_or order at 0) 0 - used → Stored columns new count place (record { bin = bin; validator = get_or order at 0; stake = room }) →
+    room < get_or weights (get_or order at 0) 0 - used → (part : ℕ) → part ≡ min (get_or weights (get_or order at 0) 0 - used) room →
+    Stored columns new count place (record { bin = bin; validator = get_or order at 0; stake = part }) → SameLoans columns new →
     FilledTo old new weights order capacity bins place (bin + 1) capacity at (used + room)
-step_part old columns new weights order capacity bins count bin room at used place to places within large stored =
+step_part old columns new weights order capacity bins count bin room at used place to places within large part is stored loans =
     let v = get_or order at 0 in
     let w = get_or weights v 0 in
     let b = bins - (bin + 1 + 1) in
@@ -180,12 +174,12 @@ step_part old columns new weights order capacity bins count bin room at used pla
     let sums = bin_total-cons (record { validator = v; stake = w - used }) xs in
     let more : 0 < bins - (bin + 1) = another_bin (bins - (bin + 1)) capacity room (w - used) large (omega (arith, to.fits, ap bin_total head, sums)) in
     let one_less : bins - (bin + 1) ≡ suc b = omega arith in
-    let put = put_step old columns new to.front count place piece to.count_is (more_room old count at bin (length order) bins to.few within to.bin_low places) to.begin stored.placed stored.none stored.put in
+    let put = put_step old columns new to.front count place piece to.count_is (more_room old count at bin (length order) bins to.few within to.bin_low places) to.begin (stored_as columns new count place bin v part piece.stake (omega arith) stored) in
     record {
       front = to.front ++ added piece;
       count_is = put.1;
       begin = put.0;
-      same = same_loans old columns new to.same stored.same;
+      same = same_loans old columns new to.same loans;
       whole =
           ap (λ (rest : List Share). (to.front ++ added piece) ++ to_come capacity (bin + 1) capacity b rest) next
           ∙ append_assoc to.front (added piece) (to_come capacity (bin + 1) capacity b (record { validator = v; stake = w - used - room } ∷ xs))

@@ -1,5 +1,5 @@
 -- Three lent columns of pieces.
-use Rattle.std.specs.Prelude.{ℕ, ◌≡◌, ◌≤◌, ◌++◌, List, map, length, drop, set}
+use Rattle.std.specs.Prelude.{ℕ, ◌+◌, ◌≡◌, ◌≤◌, ◌<◌, ◌++◌, if◌then◌else◌, ◌==◌, List, map, length, drop, set}
 use Rattle.fill.specs.declared.columns.Columns.{Columns}
 use Rattle.fill.specs.declared.piece.Piece.{Piece}
 
@@ -20,6 +20,12 @@ pub record PutAt (old new : Columns) (at : ℕ) (piece : Piece) : Type 0 where
   pub bins : new.bins.now ≡ set old.bins.now at piece.bin
   pub validators : new.validators.now ≡ set old.validators.now at piece.validator
   pub stakes : new.stakes.now ≡ set old.stakes.now at piece.stake
+
+-- the piece is stored at a place, and the next place is given; "a zero stake leaves no piece"
+pub record Stored (old new : Columns) (at place : ℕ) (piece : Piece) : Type 0 where
+  pub next : place ≡ (if piece.stake == 0 then at else (at + 1))
+  pub none : piece.stake ≡ 0 → new ≡ old
+  pub put : 0 < piece.stake → PutAt old new at piece
 
 -- what a lent column holds after the pieces are written to its front: past them is what was there
 abbrev pub column_after : (Piece → ℕ) → List Piece → List ℕ → List ℕ

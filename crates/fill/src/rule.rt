@@ -1,6 +1,6 @@
-ghost use Rattle.std.specs.Prelude.{◌≡◌, ◌+◌, ◌*◌, ◌<◌, ◌≤◌, length, All, if◌then◌else◌, ◌==◌};
+ghost use Rattle.std.specs.Prelude.{◌≡◌, ◌+◌, ◌*◌, ◌<◌, ◌≤◌, length, All};
 ghost use Rattle.fill.specs.Fill.{in_order, bin_total, fill, pieces};
-ghost use Rattle.fill.specs.Columns.{HaveRoom, SameLoans, Begin, PutAt};
+ghost use Rattle.fill.specs.Columns.{HaveRoom, SameLoans, Stored, Begin};
 
 use crate::columns::Columns;
 use crate::piece::Piece;
@@ -8,9 +8,7 @@ use crate::piece::Piece;
 // Stores a piece at a place, and gives the place after it. A zero stake leaves no piece.
 fn put_some(columns: &mut Columns, at: usize, piece: Piece) -> usize
     requires { HaveRoom columns.old (at + 1) }
-    ensures place { result ≡ (if piece.stake == 0 then at else (at + 1)) }
-    ensures none { piece.stake ≡ 0 → columns.new ≡ columns.old }
-    ensures put { 0 < piece.stake → PutAt columns.old columns.new at piece }
+    ensures stored { Stored columns.old columns.new at result piece }
     ensures same { SameLoans columns.old columns.new }
 {
     if piece.stake == 0 {
