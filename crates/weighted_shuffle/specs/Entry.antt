@@ -10,7 +10,7 @@ use Rattle.tree.specs.Tree.{zero_node}
 use Rattle.weighted_shuffle.specs.declared.entry.Order.{Order}
 use Rattle.weighted_shuffle.specs.Order.{order}
 
--- the checks of a call with so many places and nodes, in order
+-- the checks of a call with so many places and nodes: a list over 4,096 alone, and a short buffer, "n for an order and the tree size in nodes"
 abbrev pub shuffle_checks : ℕ → ℕ → ℕ → List Check
 shuffle_checks n places nodes = long_list n ∷ short_buffer places n ∷ short_buffer nodes (tree_size n) ∷ []
 
@@ -22,7 +22,7 @@ whole_order weights ws = or_no_word (order weights ws)
 abbrev pub shuffled : List ℕ → ℕ → ℕ → List ℕ → Result (List ℕ) Refusal × List ℕ
 shuffled weights places nodes ws = after_checks (first_of (shuffle_checks (length weights) places nodes)) ws (whole_order weights ws)
 
--- after a whole order every sum in the tree is 0: what the lent nodes then hold, of which the tree has so many
+-- "After a whole order … every sum in the tree is 0": what the lent nodes then hold, of which the tree has so many
 abbrev pub nodes_after : ℕ → List Node → List Node
 nodes_after size held = replicate size zero_node ++ drop size held
 
@@ -33,6 +33,7 @@ answered weights held nodes ws (Err refusal, left) = (Err refusal, held, nodes, 
 answered weights held nodes ws (Ok ps, left) =
     (Ok (record { words_read = words_read ws left }), ps ++ drop (length ps) held, nodes_after (tree_size (length weights)) nodes, left)
 
+-- all but the words that are left, of which a call that took its words by value says nothing
 abbrev pub without_words : {A B C : Type 0} → A × B × C × List ℕ → A × B × C
 without_words (a, b, c, left) = (a, b, c)
 
