@@ -1,7 +1,8 @@
 //! Replays stored cases of Turbine views, of seeds and of relays, and prints for each function how many agree.
 #![tactic(auto)]
 
-ghost use Rattle.std.specs.Prelude.{◌≡◌, ◌≤◌, length};
+ghost use Rattle.std.specs.Prelude.{◌≡◌, ◌≤◌, ◌↔◌, length, IsTrue};
+ghost use Rattle.turbine_cases.specs.Seeds.{IsWritten};
 
 use cases::{Cases, Reader};
 use refusals::Refusal;
@@ -91,16 +92,12 @@ fn view_agrees(text: &mut Reader, alloc: Global) -> Option<bool>
 }
 
 // Whether a seed has these bytes at its front, and past them what it held before.
-fn seed_holds(seed: &[u8], front: &[u64]) -> bool {
+fn is_written(seed: &[u8], front: &[u64]) -> bool
+    ensures { IsTrue result ↔ IsWritten seed.now front.now }
+{
     front.len() <= seed.len()
-        && (0..seed.len()).all(|at| {
-            let wanted = if at < front.len() {
-                front[at]
-            } else {
-                u64::from(HELD_BYTE)
-            };
-            u64::from(seed[at]) == wanted
-        })
+        && (0..front.len()).all(|at| u64::from(seed[at]) == front[at])
+        && (front.len()..seed.len()).all(|at| seed[at] == HELD_BYTE)
 }
 
 // The seed of a shred's Turbine tree or, else, of a slice's relays. The numbers are the slot, the shred or slice, and how many bytes are
@@ -119,7 +116,7 @@ fn seed_agrees(turbine: bool, text: &mut Reader, alloc: Global) -> Option<bool>
         rotor_seed(numbers[0], numbers[1], seed)
     };
     let told = answer.map_or_else(|refusal| refusal.number(), |()| 0);
-    Some(told == refusal && seed_holds(seed, &wanted))
+    Some(told == refusal && is_written(seed, &wanted))
 }
 
 // A relay. The number is the shred's position; the case expects the relay's id.
