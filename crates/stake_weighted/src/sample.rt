@@ -41,3 +41,36 @@ impl StakeWeightedSampler {
         })
     }
 }
+
+#[cfg(test)]
+mod tests {
+    use super::*;
+    use words::ListWords;
+
+    const SAMPLER: StakeWeightedSampler = StakeWeightedSampler {};
+
+    #[test]
+    fn a_value_chooses_by_running_sums(rt: HostRuntime) {
+        let words = ListWords::new(&[0, 7, 0], 1);
+        let answer = SAMPLER.sample(&[2, 0, 3], words);
+        assert_eq!(rt;
+            answer,
+            Ok(Sample {
+                id: ValidatorIndex::new(2),
+                words_read: 1
+            })
+        );
+    }
+
+    #[test]
+    fn the_first_reason_is_given(rt: HostRuntime) {
+        let words = ListWords::new(&[], 0);
+        assert_eq!(rt; SAMPLER.sample(&[], words), Err(Refusal::ListLength));
+        assert_eq!(rt;
+            SAMPLER.sample(&[u64::MAX, 1], words),
+            Err(Refusal::SumPast)
+        );
+        assert_eq!(rt; SAMPLER.sample(&[0, 0], words), Err(Refusal::TotalZero));
+        assert_eq!(rt; SAMPLER.sample(&[1], words), Err(Refusal::NoWordLeft));
+    }
+}
