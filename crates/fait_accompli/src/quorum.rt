@@ -1,16 +1,16 @@
 ghost use Rattle.std.specs.Prelude.{◌≡◌, ◌+◌, ◌≤◌, ◌<◌, length, sum};
 ghost use Rattle.refusals.specs.Refusal.{first_of};
-ghost use Rattle.fait_accompli.specs.Fallback.{size_of, Roomy, piece_checks};
-ghost use Rattle.fait_accompli.specs.Committee.{committee, told, sample_quorum};
-ghost use Rattle.partition.specs.Partition.{held_of};
 ghost use Rattle.fill.specs.Columns.{HaveRoom, SameLoans};
+ghost use Rattle.partition.specs.Partition.{held_of};
+ghost use Rattle.fait_accompli.specs.declared.quorum.Fallback.TheVariants.{Bins, Draws};
+ghost use Rattle.fait_accompli.specs.Seats.{size_of, Roomy};
+ghost use Rattle.fait_accompli.specs.Calls.{piece_checks, committee_over, told, sample_quorum};
 
-use crate::bins::{Summed, draw_others};
-use draws::Weights;
+use crate::further::{Summed, draw_further};
+use fill::Columns;
 use fixed_seats::{Division, seat_fixed};
 use partition::check_columns;
-use fill::Columns;
-use refusals::{Refusal, check_list_length, check_room, check_size_of_some};
+use refusals::{Refusal, check_list_length, check_room, check_size_of_some, check_sum};
 use words::WordSource;
 
 /// A committee, whose seats and pieces stand in what was lent: how many seats are not fixed, how many pieces there are, and how many words
@@ -23,7 +23,8 @@ pub struct Committee {
     pub second_words_read: usize,
 }
 
-/// Where the seats that are not fixed come from, for a committee of this size.
+/// Where the seats that are not fixed come from, with the size of the committee: bins, one seat from each, or plain draws. How many of the
+/// seats they are is not said here, since it follows from the list.
 #[derive(Clone, Copy, Debug, PartialEq, Eq)]
 pub enum Fallback {
     Bins(usize),
@@ -41,9 +42,10 @@ impl Fallback {
         }
     }
 
-    // Whether the columns have places for the pieces.
+    // Whether the columns have places for the pieces of `n` stakes.
     fn check_pieces(self, columns: &Columns, n: usize) -> Result<(), Refusal>
         requires short { n ≤ 4096 }
+        requires some { 0 < size_of self }
         requires few { size_of self ≤ 1024 }
         ensures { result ≡ first_of (piece_checks self n (held_of columns.now)) }
     {
@@ -54,85 +56,183 @@ impl Fallback {
     }
 }
 
-/// A sampler that gives each validator the whole number of seats in its share, and the others by its fallback.
+/// A sampler that gives each validator the whole number of seats in its share, and draws the others.
 #[derive(Clone, Copy, Debug, PartialEq, Eq)]
 pub struct FaitAccompli1Sampler {
-    pub fallback: Fallback,
+    // An enum and no type parameter: a committee sampler names its fallback, and the fallback's numbers stay in the sampler's record.
+    fallback: Fallback,
 }
 
 impl FaitAccompli1Sampler {
-    /// A committee, written to the front of `seats`; over bins with its pieces. What is lent keeps what it held where the call is turned
-    /// down.
-    pub fn sample_quorum<A: WordSource, B: WordSource>(
-        &self,
+    /// A sampler for committees of `k`, with one seat from each bin.
+    pub fn new_with_partition_fallback(k: usize) -> Self
+        ensures { result ≡ record { fallback = Bins k } }
+    {
+        Self {
+            fallback: Fallback::Bins(k),
+        }
+    }
+
+    /// A sampler for committees of `k`, with plain draws.
+    pub fn new_with_stake_weighted_fallback(k: usize) -> Self
+        ensures { result ≡ record { fallback = Draws k } }
+    {
+        Self {
+            fallback: Fallback::Draws(k),
+        }
+    }
+
+    /// The size of a committee.
+    pub fn quorum_size(self) -> usize
+        ensures { result ≡ size_of self.fallback }
+    {
+        self.fallback.size()
+    }
+
+    /// A committee, written to the front of `seats`: the fixed seats in list order, then those of the fallback. Over bins the list is
+    /// shuffled by the first words and the seats are drawn by the second, and the pieces are written to the front of the columns in fill
+    /// order; plain draws read the first words. What is lent keeps what it held where the call is turned down.
+    ///
+    /// # Errors
+    ///
+    /// The first that applies: the list is empty or too long, the committee is too large or has no seat, the seats are fewer than `k`, over
+    /// bins a column is shorter than `n + k` for `n` stakes, the stakes sum past 64 bits or to 0, a bin would be empty, a word is missing.
+    pub fn sample_quorum<A: WordSource + Drop, B: WordSource + Drop>(
+        self,
         stakes: &[u64],
+        first: A,
+        second: B,
+        seats: &mut [u64],
+        columns: &mut Columns,
+    ) -> Result<Committee, Refusal>
+        ensures sampled { (result, (seats.new, held_of columns.new))
+            ≡ sample_quorum self stakes.now (seats.old, held_of columns.old) (A.words first) (B.words second) }
+        ensures same { SameLoans columns.old columns.new }
+    {
+        let (mut first, mut second) = (first, second);
+        let (n, k) = (stakes.len(), self.fallback.size());
+        check_list_length(n)?;
+        check_size_of_some(k)?;
+        check_room(seats.len(), k)?;
+        self.fallback.check_pieces(columns, n)?;
+        let sum = check_sum(stakes)?;
+        let list = Summed { stakes, sum };
+        if n <= 64 && k <= 64 {
+            self.in_scratch::<A, B, 64, 64>(list, &mut first, &mut second, seats, columns)
+        } else if n <= 1024 {
+            self.in_scratch::<A, B, 1024, 1024>(list, &mut first, &mut second, seats, columns)
+        } else {
+            self.in_scratch::<A, B, 4096, 1024>(list, &mut first, &mut second, seats, columns)
+        }
+    }
+
+    // A committee in scratch space for up to N stakes and K seats, since zeroing what is not needed costs time.
+    fn in_scratch<A: WordSource, B: WordSource, const N: usize, const K: usize>(
+        self,
+        list: Summed,
         first: &mut A,
         second: &mut B,
         seats: &mut [u64],
         columns: &mut Columns,
     ) -> Result<Committee, Refusal>
-        ensures sampled { (result, (seats.new, held_of columns.new), A.words first.new, B.words second.new)
-            ≡ sample_quorum self.now.fallback stakes.now (seats.old, held_of columns.old)
-            (A.words first.old) (B.words second.old) }
+        requires small { (N ≤ 4096) × (K ≤ 1024) }
+        requires stakes { length list.stakes.now ≤ N }
+        requires drawn { size_of self.fallback ≤ K }
+        requires seat { 0 < size_of self.fallback }
+        requires sum { list.sum ≡ sum list.stakes.now }
+        requires some { 0 < list.sum }
+        requires seats { size_of self.fallback ≤ length seats.old }
+        requires room { Roomy self.fallback columns.old (length list.stakes.now) }
+        ensures told { (result, (seats.new, held_of columns.new))
+            ≡ told self.fallback list.entry.stakes.now (seats.old, held_of columns.old) (A.words first.old) (B.words second.old)
+            (committee_over self.fallback list.entry.stakes.now (A.words first.old) (B.words second.old)) }
         ensures same { SameLoans columns.old columns.new }
     {
-        let (n, fallback) = (stakes.len(), self.fallback);
-        let k = fallback.size();
-        check_list_length(n)?;
-        check_size_of_some(k)?;
-        check_room(seats.len(), k)?;
-        fallback.check_pieces(columns, n)?;
-        if n <= 64 && k <= 64 {
-            in_scratch::<A, B, 64, 64>(stakes, fallback, first, second, seats, columns)
-        } else if n <= 1024 {
-            in_scratch::<A, B, 1024, 1024>(stakes, fallback, first, second, seats, columns)
-        } else {
-            in_scratch::<A, B, 4096, 1024>(stakes, fallback, first, second, seats, columns)
-        }
+        let (n, k) = (list.stakes.len(), self.fallback.size());
+        let mut space = [0; N];
+        let mut kept = [0; N];
+        let mut drawn = [0; K];
+        let kept = &mut kept[..n];
+        let drawn = &mut drawn[..k];
+        let (first_left, second_left) = (first.words_left(), second.words_left());
+        let fixed = seat_fixed(list.stakes, Division::new(k as u64, list.sum), drawn, kept);
+        let kept = Summed {
+            stakes: kept,
+            sum: fixed.stake,
+        };
+        let others = &mut drawn[fixed.seats..];
+        let pieces = draw_further(
+            self.fallback,
+            kept,
+            first,
+            second,
+            &mut space[..n],
+            others,
+            columns,
+        )?;
+        seats[..k].copy_from_slice(drawn);
+        Ok(Committee {
+            further: k - fixed.seats,
+            pieces,
+            first_words_read: first_left.saturating_sub(first.words_left()),
+            second_words_read: second_left.saturating_sub(second.words_left()),
+        })
     }
 }
 
-// A committee in scratch space for up to N stakes and K seats, since zeroing what is not needed costs time.
-fn in_scratch<A: WordSource, B: WordSource, const N: usize, const K: usize>(
-    stakes: &[u64],
-    fallback: Fallback,
-    first: &mut A,
-    second: &mut B,
-    seats: &mut [u64],
-    columns: &mut Columns,
-) -> Result<Committee, Refusal>
-    requires small { (N ≤ 4096) × (K ≤ 1024) }
-    requires stakes { length stakes.now ≤ N }
-    requires drawn { size_of fallback ≤ K }
-    requires some { 0 < size_of fallback }
-    requires seats { size_of fallback ≤ length seats.old }
-    requires room { Roomy fallback columns.old (length stakes.now) }
-    ensures told { (result, (seats.new, held_of columns.new), A.words first.new, B.words second.new)
-        ≡ told (size_of fallback) stakes.now (seats.old, held_of columns.old) (A.words first.old) (B.words second.old)
-        (committee fallback stakes.now (A.words first.old) (B.words second.old)) }
-    ensures same { SameLoans columns.old columns.new }
-{
-    let k = fallback.size();
-    let mut sums = [0; N];
-    let mut kept = [0; N];
-    let mut drawn = [0; K];
-    let sums = &mut sums[..stakes.len()];
-    let kept = &mut kept[..stakes.len()];
-    let drawn = &mut drawn[..k];
-    let total = Weights::new(stakes, sums)?.total();
-    let (first_left, second_left) = (first.words_left(), second.words_left());
-    let fixed = seat_fixed(stakes, Division::new(k as u64, total), drawn, kept);
-    let summed = Summed {
-        weights: kept,
-        sum: fixed.stake,
-    };
-    let others = &mut drawn[fixed.seats..];
-    let pieces = draw_others(fallback, summed, first, second, sums, others, columns)?;
-    seats[..k].copy_from_slice(drawn);
-    Ok(Committee {
-        further: k - fixed.seats,
-        pieces,
-        first_words_read: first_left.saturating_sub(first.words_left()),
-        second_words_read: second_left.saturating_sub(second.words_left()),
-    })
+#[cfg(test)]
+mod tests {
+    use super::*;
+    use words::ListWords;
+
+    #[test]
+    fn fixed_seats_stand_before_those_of_the_bins(rt: HostRuntime) {
+        let mut seats = [7; 5];
+        let mut bins = [7; 8];
+        let mut validators = [7; 8];
+        let mut stakes = [7; 8];
+        let mut columns = Columns {
+            bins: &mut bins,
+            validators: &mut validators,
+            stakes: &mut stakes,
+        };
+        let sampler = FaitAccompli1Sampler::new_with_partition_fallback(4);
+        let first = ListWords::new(&[1, 2], 0);
+        let second = ListWords::new(&[9, 1], 1);
+        let answer = sampler.sample_quorum(&[5, 3, 2], first, second, &mut seats, &mut columns);
+        let committee = Committee {
+            further: 1,
+            pieces: 2,
+            first_words_read: 2,
+            second_words_read: 1,
+        };
+        assert_eq!(rt; answer, Ok(committee));
+        assert_eq!(rt; seats, [0, 0, 1, 2, 7]);
+        assert_eq!(rt; bins, [0, 0, 7, 7, 7, 7, 7, 7]);
+        assert_eq!(rt; validators, [1, 2, 7, 7, 7, 7, 7, 7]);
+        assert_eq!(rt; stakes, [1, 2, 7, 7, 7, 7, 7, 7]);
+    }
+
+    #[test]
+    fn plain_draws_leave_the_columns(rt: HostRuntime) {
+        let mut seats = [7; 4];
+        let mut columns = Columns {
+            bins: &mut [],
+            validators: &mut [],
+            stakes: &mut [],
+        };
+        let sampler = FaitAccompli1Sampler::new_with_stake_weighted_fallback(4);
+        let first = ListWords::new(&[0], 0);
+        let second = ListWords::new(&[], 0);
+        let answer = sampler.sample_quorum(&[5, 3, 2], first, second, &mut seats, &mut columns);
+        let committee = Committee {
+            further: 1,
+            pieces: 0,
+            first_words_read: 1,
+            second_words_read: 0,
+        };
+        assert_eq!(rt; answer, Ok(committee));
+        assert_eq!(rt; seats, [0, 0, 1, 1]);
+        assert_eq!(rt; sampler.quorum_size(), 4);
+    }
 }
