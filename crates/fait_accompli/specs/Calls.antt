@@ -3,7 +3,7 @@ use Rattle.std.specs.Prelude.{ℕ, ◌+◌, Result, Ok, Err, List, [], ◌∷◌
 use Rattle.refusals.specs.declared.refusal.Refusal.{Refusal}
 use Rattle.refusals.specs.Refusal.{Check, first_of, list_length, size_of_some, short_buffer, sum_checks, empty_bin}
 use Rattle.words.specs.Draw.{words_read}
-use Rattle.partition.specs.Partition.{capacity, short_pieces, Parted, seat_ids, Given, turned, or_no_word, Held, columns_of}
+use Rattle.partition.specs.Partition.{capacity, short_pieces, seat_ids, Given, turned, or_no_word, Held, columns_of}
 use Rattle.partition.specs.Calls.{Lent, written}
 use Rattle.fixed_seats.specs.Fixed.{kept_of, further}
 use Rattle.fait_accompli.specs.declared.quorum.Fallback.{Fallback}
