@@ -1,30 +1,29 @@
 -- Every accepted call of FA1 over bins gives a fair committee.
 use Prim.Native.Nat.{ℕ, zero, suc, ◌+◌, ◌-◌, ◌*◌, ◌≤◌, ◌<◌}
 use mathlib.Core.Path.{◌≡◌, refl, sym, ap, ◌∙◌}
-use mathlib.Core.Bool.{Bool, true, false, cond}
+use mathlib.Core.Bool.{true, false, cond}
 use mathlib.Core.List.{List, [], ◌∷◌, ◌++◌, map}
 use native.Mathlib.Omega.{arith}
 use lib.Dec.{eqb}
 use lib.ListN.{length, get_or, take, drop, replicate, length-append, length-replicate}
 use lib.Seq.{take_at}
 use borrow.Author.Tests.{eq-eqb, ne_eqb}
-use Rattle.std.specs.Prelude.{sum, Option, Some, None, Result, Ok, Err}
-use Rattle.laws.specs.Sums.{total, sum_of}
+use Rattle.std.proofs.lemmas.List.Folds.{sum_by-replicate}
+use Rattle.std.specs.Prelude.{sum, Some, Ok, Err}
+use Rattle.laws.specs.Sums.{total}
 use Rattle.laws.specs.Counts.{count}
 use Rattle.laws.proofs.Counts.{count_none}
 use Rattle.laws.proofs.Lists.{sum_append}
-use Rattle.laws.proofs.Std.{total_is_sum}
-use Rattle.refusals.specs.declared.refusal.Refusal.{Refusal}
+use Rattle.laws.proofs.Std.{total_is_sum, sum_of_is_sum_by}
 use Rattle.refusals.specs.Refusal.{Check, first_of, list_length, size_of_some, is_over_or_zero, short_buffer, sum_past, total_zero, empty_bin}
 use Rattle.fill.specs.declared.piece.Piece.{Piece}
 use Rattle.fill.specs.Columns.{column_after}
-use Rattle.fixed_seats.specs.Fixed.{fixed, kept, fixed_of, kept_of, further, repeated}
+use Rattle.fixed_seats.specs.Fixed.{fixed, fixed_of, kept_of, further, repeated}
 use Rattle.fixed_seats.proofs.SeatLemmas.{sum-cons}
-use Rattle.partition.specs.Partition.{capacity, Parted, parted, over_bins, seat_ids, Held, Given, short_pieces}
+use Rattle.partition.specs.Partition.{capacity, Parted, parted, over_bins, seat_ids, Given, short_pieces}
 use Rattle.partition.specs.Pieces.{sum_of_pieces, Filled}
 use Rattle.partition.proofs.PieceLaws.{over, over_filled, over_none, over_two, over_seats, capacity_fits, last_some, passed}
 use Rattle.fait_accompli.specs.declared.quorum.Fallback.TheVariants.{Bins}
-use Rattle.fait_accompli.specs.declared.quorum.Committee as answer
 use Rattle.fait_accompli.specs.Seats.{committee, seats_of}
 use Rattle.fait_accompli.specs.Calls.{quorum_checks, quorum, told}
 use Rattle.together.specs.Committees.{pieces_in, Fair, CommitteesFair}
@@ -32,17 +31,8 @@ use Rattle.together.proofs.KeptLaws.{fixed_at, kept_at, fixed_le, kept_none, nob
 
 -- ---- how often an id stands among repeated ids
 
-count-replicate : (i c x : ℕ) → count i (replicate c x) ≡ cond (eqb x i) c 0
-count-replicate i zero x = go (eqb x i)
-  where
-    go : (b : Bool) → ◌≡◌ {A = ℕ} 0 (cond b 0 0)
-    go true = refl
-    go false = refl
-count-replicate i (suc c) x = go (eqb x i) (count-replicate i c x)
-  where
-    go : (b : Bool) → count i (replicate c x) ≡ cond b c 0 → cond b 1 0 + count i (replicate c x) ≡ cond b (suc c) 0
-    go true h = omega arith
-    go false h = omega arith
+count-replicate : (i c x : ℕ) → count i (replicate c x) ≡ c * cond (eqb x i) 1 0
+count-replicate i c x = sum_of_is_sum_by (λ y. cond (eqb y i) 1 0) (replicate c x) ∙ sum_by-replicate (λ y. cond (eqb y i) 1 0) c x
 
 count-append : (i : ℕ) (xs ys : List ℕ) → count i (xs ++ ys) ≡ count i xs + count i ys
 count-append i xs ys = sum_append (λ x. cond (eqb x i) 1 0) xs ys
@@ -76,6 +66,10 @@ columns_hold ps bs vs ss = front ps (drop (length ps) bs) (drop (length ps) vs) 
     front (p ∷ ps) bs vs ss = ap (p ∷◌) (front ps bs vs ss)
 
 -- ---- a committee whose further seats are drawn
+
+-- with a bin, something is drawn
+parted_some : (weights : List ℕ) (b : ℕ) (first second : List ℕ) → 0 < b → parted weights b first second ≡ over_bins weights (capacity (sum weights) b) b first second
+parted_some weights b first second some = rw (ne_eqb b 0 (λ e. omega arith)) refl
 
 module _ (k : ℕ) (list : List ℕ) (seat : 0 < k) (some : 0 < total list) (p : Parted) where
   abbrev T : ℕ
@@ -147,7 +141,7 @@ module _ (k : ℕ) (list : List ℕ) (seat : 0 < k) (some : 0 < total list) (p :
       go zero z t = let q : record { drawn = []; pieces = [] } ≡ p = cc in fair_fixed z (ap seat_ids (sym q)) (ap (λ (x : Parted). x.pieces) (sym q))
       go (suc m) z t =
           let drawn : 0 < b = omega arith in
-          let o = over weights cap b first second p (ap (λ (n : ℕ). (over_bins weights (capacity (sum weights) n) n first second).0) z ∙ t) in
+          let o = over weights cap b first second p (rw (parted_some weights b first second drawn) at e) in
           let fits : total weights ≤ b * cap = omega (arith, total_is_sum weights, capacity_fits (sum weights) b drawn) in
           let last : (b - 1) * cap < total weights = omega (arith, total_is_sum weights, last_some cap (sum weights) b drawn full) in
           fair_drawn drawn (over_seats weights cap b second o fits last) (over_none weights cap b second o fits last)

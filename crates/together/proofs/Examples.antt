@@ -1,5 +1,4 @@
 -- The theorem at an accepted call, which was lent more than is needed.
-use Prim.Native.Nat.{ℕ}
 use mathlib.Core.Path.{refl}
 use mathlib.Core.List.{[], ◌∷◌}
 use lib.ListN.{replicate}

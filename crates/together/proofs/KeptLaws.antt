@@ -13,7 +13,7 @@ use Rattle.partition.specs.Partition.{capacity}
 use Rattle.partition.proofs.PieceLaws.{capacity_fits}
 
 -- what the fixed seats leave of s × k
-rest : ℕ → ℕ → ℕ → ℕ
+abbrev rest : ℕ → ℕ → ℕ → ℕ
 rest k T s = s * k % T
 
 -- an element of a list that is computed by a function which leaves 0 as it is
@@ -68,7 +68,7 @@ module _ (k : ℕ) (list : List ℕ) (seat : 0 < k) (some : 0 < total list) wher
   nobody z i =
       let all : sum (fixed_of k list) ≡ k = omega (arith, fixed_le) in
       let none : sum (map (rest k T) list) ≡ 0 =
-          omega (arith, sum_rest k T list, ap (◌* T) (rw (← T_is) at all), ap (◌* k) T_is) in
+      omega (arith, sum_rest k T list, ap (◌* T) (rw (← T_is) at all), ap (◌* k) T_is) in
       kept_none k T seat (get_or list i 0)
       (omega (arith, at_map (rest k T) (rw (zero-mul, zero-mod)) list i, total_is_sum (map (rest k T) list), total_at (map (rest k T) list) i))
 
@@ -79,8 +79,8 @@ module _ (k : ℕ) (list : List ℕ) (seat : 0 < k) (some : 0 < total list) wher
       let c = capacity (sum (kept_of k list)) b in
       let s = get_or list i 0 in
       let enough : b * T ≤ sum (kept_of k list) * k =
-          let whole : sum (fixed_of k list) + b ≡ k = omega (arith, fixed_le) in
-          omega (arith, all_seated_or_kept k (sum list) list, ap (◌* sum list) whole, ap (b *◌) T_is) in
+      let whole : sum (fixed_of k list) + b ≡ k = omega (arith, fixed_le) in
+      omega (arith, all_seated_or_kept k (sum list) list, ap (◌* sum list) whole, ap (b *◌) T_is) in
       let wide : b * T ≤ b * (c * k) = omega (arith, enough, mul-le-mul_right k (capacity_fits (sum (kept_of k list)) b drawn)) in
       let cap : T ≤ c * k = le_of_mul-le-mul_left {k = b} wide drawn in
       let less : kept k T s * k < suc c * k = omega (arith, kept_times k T seat s, mod-lt (s * k) some, mod-lt (fixed k T s * T) seat) in
