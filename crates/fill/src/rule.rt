@@ -18,8 +18,8 @@ fn put_some(columns: &mut Columns, at: usize, piece: Piece) -> usize
     at + 1
 }
 
-/// Fills bins to their capacity with weights in an order of their validators, writes the pieces to the front of the columns, and gives
-/// their number.
+/// Fills bins to their capacity with weights in an order of their validators' ids, writes the pieces to the front of the columns, and gives
+/// their number, which is at most that of the order and the bins together.
 pub fn fill(
     weights: &[u64],
     order: &[u64],

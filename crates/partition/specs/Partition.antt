@@ -69,11 +69,13 @@ abbrev pub held_of : Columns → Held
 held_of columns = (columns.bins.now, columns.validators.now, columns.stakes.now)
 
 abbrev pub columns_of : List Piece → Held → Held
-columns_of ps (bins, validators, stakes) = (column_after (λ p. p.bin) ps bins, column_after (λ p. p.validator) ps validators, column_after (λ p. p.stake) ps stakes)
+columns_of ps (bins, validators, stakes) =
+    (column_after (λ p. p.bin) ps bins, column_after (λ p. p.validator) ps validators, column_after (λ p. p.stake) ps stakes)
 
 -- each column needs a place for each piece
 abbrev pub short_pieces : Held → ℕ → List Check
-short_pieces (bins, validators, stakes) needed = short_buffer (length bins) needed ∷ short_buffer (length validators) needed ∷ short_buffer (length stakes) needed ∷ []
+short_pieces (bins, validators, stakes) needed =
+    short_buffer (length bins) needed ∷ short_buffer (length validators) needed ∷ short_buffer (length stakes) needed ∷ []
 
 -- the number of pieces and the seats, and what the columns hold
 abbrev pub placed : Held → Option Parted × List ℕ × List ℕ → Option (ℕ × List ℕ) × Held × List ℕ × List ℕ
