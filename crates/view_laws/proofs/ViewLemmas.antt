@@ -1,8 +1,10 @@
 -- All views of one list.
-use Rattle.std.proofs.Common.{◌≡◌, ℕ, zero, suc, ◌-◌, ◌/◌, ◌<◌, Option, Some, None, Result, Ok, Err, List, length, get_or, take, drop, refl, sym, ap, subst, ◌∙◌, arith, take_at}
+use Rattle.std.proofs.Common.{◌≡◌, ℕ, zero, suc, ◌-◌, ◌/◌, ◌<◌, Some, Result, Ok, Err, List, length, get_or, take, drop, refl, sym, ap, subst, ◌∙◌, arith, take_at}
 use Rattle.refusals.specs.declared.refusal.Refusal.{Refusal}
 use Rattle.refusals.specs.Refusal.{first_of}
-use Rattle.draws.specs.Call.{after_checks, or_no_word}
+use Rattle.draws.specs.Call.{or_no_word}
+use Rattle.draws.proofs.CallLemmas.{accepted, drawn}
+use Rattle.draws.proofs.DrawLemmas.{went}
 use Rattle.weighted_shuffle.specs.Order.{order}
 use Rattle.laws.specs.Counts.{count}
 use Rattle.laws.specs.Orders.{Permutation, ids_from}
@@ -22,18 +24,6 @@ record Admitted (n fanout own : ℕ) : Type 0 where
 
 admitted : (n fanout own : ℕ) (lent : Lent) → first_of (view_checks n fanout own lent) ≡ Ok tt → Admitted n fanout own
 admitted n fanout own lent e = record { fanout_some = grind arith; own_below = grind arith }
-
--- what an accepted call went through
-record Unrefused (fanout own : ℕ) (r : Result (Unit {0}) Refusal) (draw : Option (List ℕ) × List ℕ) (s : Neighborhood) : Type 0 where
-  passes : r ≡ Ok tt
-  ps : List ℕ
-  drew : draw.0 ≡ Some ps
-  is : neighborhood fanout own ps ≡ s
-
-unrefused : (fanout own : ℕ) (ws : List ℕ) (r : Result (Unit {0}) Refusal) (draw : Option (List ℕ) × List ℕ) (s : Neighborhood) → (after_checks r ws (or_no_word (seen_by fanout own draw))).0 ≡ Ok s → Unrefused fanout own r draw s
-unrefused fanout own ws (Err refusal) draw s e = cc
-unrefused fanout own ws (Ok passed) (None, left) s e = cc
-unrefused fanout own ws (Ok passed) (Some ps, left) s e = record { passes = refl; ps = ps; drew = refl; is = cc }
 
 none_of : (c : ℕ) → (0 < c → ⊥) → c ≡ 0
 none_of zero h = refl
@@ -56,28 +46,27 @@ module _ (stakes : List ℕ) (fanout : ℕ) (ws : List ℕ) where
     children_are : children_of stakes fanout ws v ≡ children_at fanout ids (position_of own ids)
 
   saw : (own : ℕ) (v : Viewed stakes fanout ws own) → Saw own v
-  saw own v = go (view stakes fanout own lent ws) refl v.accepts
+  saw own v = go (view stakes fanout own v.held ws) refl v.accepts
     where
-      lent : Lent
-      lent = v.held
-
-      go : (o : Result Neighborhood Refusal × List ℕ) → view stakes fanout own lent ws ≡ o → (answered n lent ws o).0 ≡ Ok v.view → Saw own v
+      go : (o : Result Neighborhood Refusal × List ℕ) → view stakes fanout own v.held ws ≡ o → (answered n v.held ws o).0 ≡ Ok v.view → Saw own v
       go (Err r, left) q e = cc
       go (Ok s, left) q e =
-          let u = unrefused fanout own ws (first_of (view_checks n fanout own lent)) (order stakes ws) s (ap (λ (o : Result Neighborhood Refusal × List ℕ). o.0) q) in
-          let a = admitted n fanout own lent u.passes in
+          let call = accepted (first_of (view_checks n fanout own v.held)) ws (or_no_word (seen_by fanout own (order stakes ws))) s
+          (ap (λ (o : Result Neighborhood Refusal × List ℕ). o.0) q) in
+          let u = went (order stakes ws) (λ ps rest. (Some (neighborhood fanout own ps), rest)) s (drawn (seen_by fanout own (order stakes ws)) s call.is) in
+          let a = admitted n fanout own v.held call.passed in
           let is : ◌≡◌ {A = View} (record { tree = tree_of s; words_read = length ws - length left }) v.view = cc in
-          let ids-are : ids ≡ u.ps = ap positions u.drew in
-          let seen : neighborhood fanout own ids ≡ s = ap (neighborhood fanout own) ids-are ∙ u.is in
+          let ids-are : ids ≡ u.value = ap positions u.first in
+          let seen : neighborhood fanout own ids ≡ s = ap (neighborhood fanout own) ids-are ∙ cc in
           let tree_is : v.view.tree ≡ tree_of (neighborhood fanout own ids) = ap (λ (x : View). x.tree) (sym is) ∙ ap tree_of (sym seen) in
           record {
             below = a.own_below;
             some = a.fanout_some;
-            permutes = subst (λ (ps : List ℕ). Permutation (ids_from 0 n) ps) (sym ids-are) (orders_whole_by_totals stakes ws u.ps u.drew).permutation;
+            permutes = subst (λ (ps : List ℕ). Permutation (ids_from 0 n) ps) (sym ids-are) (orders_whole_by_totals stakes ws u.value u.first).permutation;
             root_is = ap (λ (t : TurbineTree). t.root) tree_is;
             parent_is = ap (λ (t : TurbineTree). t.parent) tree_is;
             children_are =
-                ap (λ (o : Result Neighborhood Refusal × List ℕ). take v.view.tree.children (answered n lent ws o).3) q
+                ap (λ (o : Result Neighborhood Refusal × List ℕ). take v.view.tree.children (answered n v.held ws o).3) q
                 ∙ take_at s.children (drop (length s.children) v.held.2) v.view.tree.children (ap (λ (x : View). x.tree.children) is)
                 ∙ ap (λ (x : Neighborhood). x.children) (sym seen);
           }
