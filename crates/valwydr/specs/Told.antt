@@ -9,6 +9,7 @@ use Rattle.decaying_acceptance.specs.declared.sampler.Sample.{Sample as TriedSam
 use Rattle.decaying_acceptance.specs.declared.sampler.Quorum.{Quorum as TriedQuorum}
 use Rattle.partition.specs.declared.quorum.Partition.{Partition}
 use Rattle.partition.specs.Calls.{Lent}
+use Rattle.fait_accompli.specs.declared.quorum.Committee.{Committee}
 use Rattle.tree.specs.declared.node.Node.{Node}
 use Rattle.tree.specs.declared.sizes.Sizes.{Sizes}
 use Rattle.weighted_shuffle.specs.declared.entry.Order.{Order}
@@ -38,6 +39,18 @@ tried_quorum_told held (Ok q, counts, seats) = (0, q.tries ∷ q.words_read ∷ 
 abbrev pub partition_told : List ℕ → Result Partition Refusal × Lent → ℕ × List ℕ × Lent
 partition_told held (Err refusal, lent) = (number_of refusal, held, lent)
 partition_told held (Ok p, lent) = (0, p.pieces ∷ p.first_words_read ∷ p.second_words_read ∷ [], lent)
+
+-- a committee of FA1: k', the number of pieces, the words read of each list
+abbrev pub committee_values : Committee → List ℕ
+committee_values c = c.further ∷ c.pieces ∷ c.first_words_read ∷ c.second_words_read ∷ []
+
+abbrev pub committee_told : List ℕ → Result Committee Refusal × Lent → ℕ × List ℕ × Lent
+committee_told held (Err refusal, lent) = (number_of refusal, held, lent)
+committee_told held (Ok c, lent) = (0, committee_values c, lent)
+
+-- the same without columns for pieces, as plain draws make none
+abbrev pub without_columns : ℕ × List ℕ × Lent → ℕ × List ℕ × List ℕ
+without_columns (number, answer, (seats, columns)) = (number, answer, seats)
 
 -- the nodes of a full tree, and those that have children: never refused
 abbrev pub sizes_told : Sizes → List ℕ
