@@ -14,7 +14,9 @@ const ROOM: usize = 262144;
 
 // The most stakes, words and seats of a case.
 const STAKES: u64 = 4200;
+
 const WORDS: u64 = 8192;
+
 const SEATS: u64 = 1100;
 
 // One validator. The case's number is the cursor; it expects the id and the words read.
