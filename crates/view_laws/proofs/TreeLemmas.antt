@@ -1,7 +1,5 @@
 -- Parents and children by order position, in any order of the ids.
-use Rattle.std.proofs.Common.{◌≡◌, ℕ, suc, ◌+◌, ◌-◌, ◌*◌, ◌/◌, ◌≤◌, ◌<◌, Bool, true, false, Option, Some, None, List, get_or, refl, sym, ap, ◌∙◌, arith, suc-mul, le-mul_of_pos_right, le-div_iff_mul-le, div-lt_iff_lt-mul, div-le_self, eq-eqb, ne_eqb}
-use Rattle.std.specs.Prelude.{◌==◌}
-use Rattle.std.proofs.lemmas.Bool.{eqb-true, eqb-false}
+use Rattle.std.proofs.Common.{◌≡◌, ℕ, suc, ◌+◌, ◌-◌, ◌*◌, ◌/◌, ◌≤◌, ◌<◌, Option, Some, None, List, get_or, sym, ap, ◌∙◌, arith, suc-mul, le-mul_of_pos_right, le-div_iff_mul-le, div-lt_iff_lt-mul, div-le_self, eq-eqb, ne_eqb}
 use Rattle.laws.specs.Counts.{count}
 use Rattle.laws.specs.Orders.{Permutation, ids_from}
 use Rattle.laws.proofs.Ids.{order_long, order_below, order_count}
@@ -82,15 +80,10 @@ module _ (n : ℕ) (order : List ℕ) (permutes : Permutation (ids_from 0 n) ord
     names i j h b = names_some i b.after_root ∙ ap (λ (x : ℕ). Some x) (ap (λ (p : ℕ). get_or order p 0) b.at ∙ id_at j h)
 
     pub named : (i j : ℕ) → i < n → parent_at fanout order (position_of i order) ≡ Some j → Below fanout (position_of i order) (position_of j order)
-    named i j h e = go ((position_of i order) == 0) refl
-      where
-        go : (b : Bool) → ((position_of i order) == 0) ≡ b → Below fanout (position_of i order) (position_of j order)
-        go true q = absurd (let z : ◌≡◌ {A = Option ℕ} None (Some j) = sym (names_none i (eqb-true (position_of i order) 0 q)) ∙ e in let y : ◌≡◌ {A = ℕ} 0 1 = cc in omega arith)
-        go false q =
-            let ne : position_of i order ≡ 0 → ⊥ = eqb-false (position_of i order) 0 q in
-            let pos : 0 < position_of i order = omega arith in
-            let same : get_or order ((position_of i order - 1) / fanout) 0 ≡ j = ap id_of (sym (names_some i pos) ∙ e) in
-            record {
-              after_root = pos;
-              at = sym (place_of ((position_of i order - 1) / fanout) (omega (arith, parent_before (position_of i order) pos, place_lt i h))) ∙ ap (λ (x : ℕ). position_of x order) same;
-            }
+    named i j h e =
+        let pos : 0 < position_of i order = grind arith in
+        let same : get_or order ((position_of i order - 1) / fanout) 0 ≡ j = ap id_of (sym (names_some i pos) ∙ e) in
+        record {
+          after_root = pos;
+          at = sym (place_of ((position_of i order - 1) / fanout) (omega (arith, parent_before (position_of i order) pos, place_lt i h))) ∙ ap (λ (x : ℕ). position_of x order) same;
+        }
