@@ -4,10 +4,11 @@ use Rattle.refusals.specs.declared.refusal.Refusal.{Refusal}
 use Rattle.refusals.specs.declared.refusal.Refusal.TheVariants.{NoWordLeft}
 use Rattle.words.specs.Draw.{and_then}
 use Rattle.draws.specs.Call.{or_no_word}
+use Rattle.draws.proofs.DrawLemmas.{went}
 use Rattle.tree.specs.declared.node.Node.{Node}
 use Rattle.tree.specs.Sizes.{tree_size}
 use Rattle.weighted_shuffle.specs.declared.entry.Order.{Order}
-use Rattle.weighted_shuffle.specs.Order.{Left, Step, step, steps, whole, order}
+use Rattle.weighted_shuffle.specs.Order.{Left, step, steps, whole, order}
 use Rattle.weighted_shuffle.specs.Entry as shuffle
 use Rattle.turbine.specs.declared.turbine_tree.TurbineTree.{TurbineTree}
 use Rattle.turbine.specs.declared.turbine_tree.View.{View}
@@ -17,16 +18,11 @@ use Rattle.turbine.specs.Calls.{seen_by, tree_of, written, answered}
 -- an order has as many positions as steps were made
 length-steps : (n : ℕ) (left : Left) (ws ps : List ℕ) → (steps n left ws).0 ≡ Some ps → length ps ≡ n
 length-steps zero left ws ps e = let none : [] ≡ ps = cc in rw (← none)
-length-steps (suc n) left ws ps e = first (step left ws) (λ s rest qs. length-steps n s.rest rest qs) e
-  where
-    second : (s : Step) (draw : Option (List ℕ) × List ℕ) → ((qs : List ℕ) → draw.0 ≡ Some qs → length qs ≡ n) → (and_then draw (λ qs last. let o : Option (List ℕ) × List ℕ = (Some (s.position ∷ qs), last) in o)).0 ≡ Some ps → length ps ≡ suc n
-    second s (None, last) long e = cc
-    second s (Some qs, last) long e = let all : s.position ∷ qs ≡ ps = cc in rw (← all) (ap suc (long qs refl))
-
-    first : (draw : Option Step × List ℕ) → ((s : Step) (rest qs : List ℕ) → (steps n s.rest rest).0 ≡ Some qs → length qs ≡ n) →
-        (and_then draw (λ s rest. and_then (steps n s.rest rest) (λ qs last. let o : Option (List ℕ) × List ℕ = (Some (s.position ∷ qs), last) in o))).0 ≡ Some ps → length ps ≡ suc n
-    first (None, rest) long e = cc
-    first (Some s, rest) long e = second s (steps n s.rest rest) (long s rest) e
+length-steps (suc n) left ws ps e =
+    let first = went (step left ws) (λ s rest. and_then (steps n s.rest rest) (λ qs last. (Some (s.position ∷ qs), last))) ps e in
+    let rest = went (steps n first.value.rest first.rest) (λ qs last. (Some (first.value.position ∷ qs), last)) ps first.second in
+    let all : first.value.position ∷ rest.value ≡ ps = cc in
+    rw (← all) (ap suc (length-steps n first.value.rest first.rest rest.value rest.first))
 
 -- what a call of the shuffle gives, and what a call of the view gives
 abbrev pub Drawn : Type 0
