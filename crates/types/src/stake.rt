@@ -64,7 +64,7 @@ impl Stake {
         self.0.checked_mul(rhs).map(Self::new)
     }
 
-    /// The sum of a list of stakes: `Sum`. None where it is above 2^64 - 1. Carries are counted: one test in the end takes less time
+    /// The sum of a list of stakes: `Sum`. None where it is above 2^64 - 1. Carries are counted: one test at the end takes less time
     /// than one for each stake.
     pub fn sum(stakes: &[u64]) -> Option<Self>
         ensures { result ≡ checked (sum stakes.now) }
