@@ -58,6 +58,7 @@ shuffle_leaves (suc m) i items ws =
 
 pub draws_read_only : DrawsReadOnly
 draws_read_only ws = record {
+  of_word = next_word_leaves ws;
   of_below = λ m. below_leaves m ws;
   of_fraction = after_leaves (λ (r : Option Float × List ℕ). r.1) (length ws) (next_word ws) _ _ (next_word_leaves ws) (λ left. omega arith) (λ w left. omega arith);
   of_weighted = λ weights. after_leaves (λ (r : Option Place × List ℕ). r.1) (length ws) (below (sum weights) ws) _ _ (below_leaves (sum weights) ws) (λ left. omega arith) (λ v left. omega arith);

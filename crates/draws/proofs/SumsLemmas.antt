@@ -7,14 +7,14 @@ use Rattle.std.specs.Prelude.{sum}
 use Rattle.std.proofs.lemmas.List.Sums.{sum_by-cons}
 use Rattle.laws.specs.Sums.{running_from}
 use Rattle.draws.specs.Laws.{WeightsHoldRunningSums}
-use Rattle.draws.specs.Sums.{differences, NeverFall, AreSums}
+use Rattle.draws.specs.Sums.{differences, NeverFallFrom, AreSums}
 use Rattle.draws.proofs.WeightedLemmas.{IsChosen, chosen_is}
 use Rattle.sorted.specs.Search.{IsIn}
 use Rattle.draws.specs.declared.weighted.Place.{Place}
 use Rattle.draws.specs.Weighted.{chosen, place_of}
 
 -- the sum of the weights is the last running sum
-pub sum-differences : (before s : ℕ) (sums : List ℕ) → NeverFall before (s ∷ sums) → before + sum (differences before (s ∷ sums)) ≡ get_or (s ∷ sums) (length sums) 0
+pub sum-differences : (before s : ℕ) (sums : List ℕ) → NeverFallFrom before (s ∷ sums) → before + sum (differences before (s ∷ sums)) ≡ get_or (s ∷ sums) (length sums) 0
 sum-differences before s [] never_fall = omega (arith, never_fall.0)
 sum-differences before s (t ∷ sums) never_fall =
     let one_more = sum_by-cons (λ x. x) (s - before) (differences s (t ∷ sums)) in
@@ -29,7 +29,7 @@ last_sum (s ∷ sums) total are_sums =
 
 -- the sums of all weights up to each are their running sums
 pub differences-from_totals : (before : ℕ) (weights sums : List ℕ) → length weights ≡ length sums →
-    ((k : ℕ) → k < length sums → get_or sums k 0 ≡ before + sum (take (suc k) weights)) → (differences before sums ≡ weights) × NeverFall before sums
+    ((k : ℕ) → k < length sums → get_or sums k 0 ≡ before + sum (take (suc k) weights)) → (differences before sums ≡ weights) × NeverFallFrom before sums
 differences-from_totals before [] [] same totals = (refl, tt)
 differences-from_totals before [] (s ∷ sums) same totals = absurd (omega arith)
 differences-from_totals before (w ∷ weights) [] same totals = absurd (omega arith)
@@ -40,12 +40,12 @@ differences-from_totals before (w ∷ weights) (s ∷ sums) same totals =
     let first : s - before ≡ w = omega arith in
     (rw (first, rest.0), (omega arith, rest.1))
 
-never_fall_from : (before : ℕ) (sums : List ℕ) → NeverFall before sums → (k : ℕ) → k < length sums → before ≤ get_or sums k 0
+never_fall_from : (before : ℕ) (sums : List ℕ) → NeverFallFrom before sums → (k : ℕ) → k < length sums → before ≤ get_or sums k 0
 never_fall_from before [] never_fall k within = absurd (omega arith)
 never_fall_from before (s ∷ sums) never_fall zero within = never_fall.0
 never_fall_from before (s ∷ sums) never_fall (suc k) within = omega (arith, never_fall_from s sums never_fall.1 k (omega arith), never_fall.0)
 
-pub never_fall_between : (before : ℕ) (sums : List ℕ) → NeverFall before sums → (i j : ℕ) → i ≤ j → j < length sums → get_or sums i 0 ≤ get_or sums j 0
+pub never_fall_between : (before : ℕ) (sums : List ℕ) → NeverFallFrom before sums → (i j : ℕ) → i ≤ j → j < length sums → get_or sums i 0 ≤ get_or sums j 0
 never_fall_between before [] never_fall i j order within = absurd (omega arith)
 never_fall_between before (s ∷ sums) never_fall zero zero order within = omega arith
 never_fall_between before (s ∷ sums) never_fall zero (suc j) order within = never_fall_from s sums never_fall.1 j (omega arith)
@@ -53,7 +53,7 @@ never_fall_between before (s ∷ sums) never_fall (suc i) zero order within = ab
 never_fall_between before (s ∷ sums) never_fall (suc i) (suc j) order within = never_fall_between s sums never_fall.1 i j (omega arith) (omega arith)
 
 -- the place with all sums up to v before it, and with a sum above v
-pub chosen-differences : (before : ℕ) (sums : List ℕ) (v i : ℕ) → NeverFall before sums → before ≤ v → i ≤ length sums →
+pub chosen-differences : (before : ℕ) (sums : List ℕ) (v i : ℕ) → NeverFallFrom before sums → before ≤ v → i ≤ length sums →
     ((k : ℕ) → k < i → get_or sums k 0 ≤ v) → ((k : ℕ) → i ≤ k → k < length sums → v < get_or sums k 0) → i ≡ chosen (differences before sums) (v - before)
 chosen-differences before [] v i never_fall from within low high = omega arith
 chosen-differences before (s ∷ sums) v zero never_fall from within low high =
@@ -65,7 +65,7 @@ chosen-differences before (s ∷ sums) v (suc i) never_fall from within low high
     rw (le-ltb (v - before) (s - before) past, rest)
     (ap suc (chosen-differences s sums v i never_fall.1 (low 0 (omega arith)) (omega arith) (λ k h. low (suc k) (omega arith)) (λ k h l. high (suc k) (omega arith) (omega arith))))
 
-pub chosen-sums : (sums : List ℕ) (v i : ℕ) → NeverFall 0 sums → i ≤ length sums →
+pub chosen-sums : (sums : List ℕ) (v i : ℕ) → NeverFallFrom 0 sums → i ≤ length sums →
     ((k : ℕ) → k < i → get_or sums k 0 ≤ v) → ((k : ℕ) → i ≤ k → k < length sums → v < get_or sums k 0) → i ≡ chosen (differences 0 sums) v
 chosen-sums sums v i never_fall within low high =
     let same : v - 0 ≡ v = omega arith in
@@ -76,7 +76,7 @@ length_differences before [] = refl
 length_differences before (s ∷ sums) = omega (arith, length_differences s sums)
 
 -- a running sum is the sum of the weights up to its place
-pub sum_up_to : (before k : ℕ) (sums : List ℕ) → NeverFall before sums → k < length sums → get_or sums k 0 ≡ before + sum (take (suc k) (differences before sums))
+pub sum_up_to : (before k : ℕ) (sums : List ℕ) → NeverFallFrom before sums → k < length sums → get_or sums k 0 ≡ before + sum (take (suc k) (differences before sums))
 sum_up_to before k [] never_fall within = absurd (omega arith)
 sum_up_to before zero (s ∷ sums) never_fall within = omega (arith, never_fall.0, sum_by-cons (λ x. x) (s - before) [])
 sum_up_to before (suc k) (s ∷ sums) never_fall within =
@@ -117,7 +117,7 @@ pub place_made : (weights : List ℕ) (v at before : ℕ) → Found weights v at
 place_made weights v at before there is = rw (is, there.is) refl
 
 pub sums_from_totals : (weights sums : List ℕ) → length weights ≡ length sums → ((k : ℕ) → k < length sums → get_or sums k 0 ≡ sum (take (k + 1) weights)) →
-    (differences 0 sums ≡ weights) × NeverFall 0 sums
+    (differences 0 sums ≡ weights) × NeverFallFrom 0 sums
 sums_from_totals weights sums same totals =
     differences-from_totals 0 weights sums same
     (λ k within. let one_more : k + 1 ≡ suc k = omega arith in omega (arith, totals k within, ap (λ n. sum (take n weights)) one_more))
@@ -144,7 +144,7 @@ finished i s weights sums to same end some =
       answer = rw (known.0, lt-leb (2 ^ 64) (sum weights) (omega (arith, to.fits)), ne_eqb (sum weights) 0 (λ e. some (whole ∙ e)));
     }
 
-running_back : (before : ℕ) (sums : List ℕ) → NeverFall before sums → sums ≡ running_from before (differences before sums)
+running_back : (before : ℕ) (sums : List ℕ) → NeverFallFrom before sums → sums ≡ running_from before (differences before sums)
 running_back before [] never_fall = refl
 running_back before (s ∷ sums) never_fall = let here : before + (s - before) ≡ s = omega (arith, never_fall.0) in rw here (ap (s ∷◌) (running_back s sums never_fall.1))
 

@@ -4,7 +4,8 @@ use Rattle.std.specs.Prelude.{slice_index, nat_lt}
 use Rattle.std.proofs.lemmas.List.Sums.{sum_by-cons}
 use Rattle.draws.specs.declared.weighted.Place.{Place}
 use Rattle.laws.specs.Sums.{running_from}
-use Rattle.draws.specs.Laws.{first_above, PlacesGiveBack, ValuesChooseInParts, ChosenIsFirstAbove}
+use Rattle.sorted.specs.Search.{first_above}
+use Rattle.draws.specs.Laws.{PlacesGiveBack, ValuesChooseInParts, ChosenIsFirstAbove}
 use Rattle.draws.specs.Weighted.{chosen, place_of, Placed, HasWeight}
 
 -- the weights before the place sum to no more than the value, and with the weight there to more

@@ -3,8 +3,8 @@
 
 mod below;
 mod fraction;
-pub mod promises;
 mod shuffle;
+pub mod theorems;
 mod weighted;
 
 pub use below::draw_below;

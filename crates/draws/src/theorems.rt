@@ -79,7 +79,7 @@ pub fn shuffles_are_fair()
     ensures { ShuffleFair }
 {}
 
-/// No draw leaves more words than there were.
+/// Neither a word read nor any draw leaves more words than there were.
 pub fn draws_read_only()
     ensures { DrawsReadOnly }
 {}
