@@ -1,4 +1,4 @@
-ghost use Rattle.std.specs.Prelude.{◌≡◌, ◌<◌, Ok, IfSome, length, take, sum};
+ghost use Rattle.std.specs.Prelude.{◌≡◌, ◌<◌, ◌≤◌, Ok, IfSome, length, take, sum};
 ghost use Rattle.refusals.specs.Refusal.{first_of, sum_checks, unless};
 ghost use Rattle.draws.specs.Weighted.{place_of, weighted, Placed};
 
@@ -36,11 +36,14 @@ impl<'a> Model for Weights<'a> {
 }
 
 impl<'a> Weights<'a> {
-    /// Sums up the weights into `sums`, a place for each. Refused with `SumPast` where they sum past 64 bits, and with `TotalZero` where to 0.
+    /// Sums up the weights into the front of `sums`, a place for each. Refused with `SumPast` where they sum past 64 bits, and with
+    /// `TotalZero` where to 0.
+    // What `sums` then holds is told by the type: its view and its invariant, and `weights_hold_running_sums`.
     pub fn new(weights: &[u64], sums: &'a mut [u64]) -> Result<Self, Refusal>
-        requires { length weights.now ≡ length sums.old }
+        requires { length weights.now ≤ length sums.old }
         ensures { result ≡ unless (first_of (sum_checks weights.now)) (Ok weights.now) }
     {
+        let sums = &mut sums[..weights.len()];
         let mut sum: u64 = 0;
         for (i, weight) in weights.iter().enumerate() {
             sum = sum.checked_add(*weight).ok_or(Refusal::SumPast)?;
@@ -86,6 +89,7 @@ impl<'a> Weights<'a> {
 }
 
 /// The place that a value chooses, by a walk over the weights: one draw alone needs no running sums.
+// The walk ends by its own condition, at a weight that is more than what remains: there is no range to go over.
 #[tactic(auto, using(crate::proofs::WeightedLemmas::walked_to))]
 pub fn walked_place(weights: &[u64], v: u64) -> Place
     requires { v < sum weights.now }
