@@ -1,7 +1,8 @@
 -- What a call gives: the first refusal from its input, else the draws.
-use Rattle.std.specs.Prelude.{ℕ, ◌-◌, Result, Ok, Err, List, [], ◌∷◌, ◌++◌, length, drop}
+use Rattle.std.specs.Prelude.{ℕ, Result, Ok, Err, List, [], ◌∷◌, ◌++◌, length, drop}
 use Rattle.refusals.specs.declared.refusal.Refusal.{Refusal}
 use Rattle.refusals.specs.Refusal.{Check, first_of, list_length, size, short_buffer, sum_checks}
+use Rattle.words.specs.Draw.{words_read}
 use Rattle.draws.specs.declared.weighted.Place.{Place}
 use Rattle.draws.specs.Weighted.{weighted, ids}
 use Rattle.draws.specs.Call.{after_checks, or_no_word}
@@ -20,7 +21,7 @@ sampled stakes ws = after_checks (first_of (sample_checks stakes)) ws (or_no_wor
 -- the answer: the validator and the words read
 abbrev pub sample_answer : List ℕ → Result Place Refusal × List ℕ → Result Sample Refusal
 sample_answer ws (Err refusal, left) = Err refusal
-sample_answer ws (Ok p, left) = Ok (record { id = p.at; words_read = length ws - length left })
+sample_answer ws (Ok p, left) = Ok (record { id = p.at; words_read = words_read ws left })
 
 -- a call of `sample`
 abbrev pub sample : List ℕ → List ℕ → Result Sample Refusal
@@ -43,7 +44,7 @@ quorum stakes k room ws = after_checks (first_of (quorum_checks stakes k room)) 
 abbrev pub quorum_answer : List ℕ → List ℕ → Result (List Place) Refusal × List ℕ → Result Quorum Refusal × List ℕ
 quorum_answer held ws (Err refusal, left) = (Err refusal, held)
 quorum_answer held ws (Ok places, left) =
-    (Ok (record { words_read = length ws - length left }), ids places ++ drop (length places) held)
+    (Ok (record { words_read = words_read ws left }), ids places ++ drop (length places) held)
 
 -- a call of `sample_quorum`
 abbrev pub sample_quorum : ℕ → List ℕ → List ℕ → List ℕ → Result Quorum Refusal × List ℕ

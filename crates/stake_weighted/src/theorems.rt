@@ -1,11 +1,11 @@
-ghost use Rattle.stake_weighted.specs.Laws.{SamplePlaced, QuorumPlaced, CallsGiveCommittees};
+ghost use Rattle.stake_weighted.specs.Laws.{SamplePlaced, QuorumPlaced, CallsGiveCommittees, QuorumReadsOnly, QuorumAdmitted};
 
 /// The validator of an accepted `sample` has a stake above 0.
 pub fn samples_have_stake()
     ensures { SamplePlaced }
 {}
 
-/// So has each of a committee, and a committee has `k` seats.
+/// Each validator of an accepted committee has a stake above 0, and the committee has `k` seats.
 pub fn quorums_have_stake()
     ensures { QuorumPlaced }
 {}
@@ -14,4 +14,16 @@ pub fn quorums_have_stake()
 #[tactic(auto, using(crate::proofs::PlacedLemmas::calls_committee))]
 pub fn calls_give_committees()
     ensures { CallsGiveCommittees }
+{}
+
+/// Drawing a committee leaves no more words than there were.
+#[tactic(auto, using(crate::proofs::AdmittedLemmas::quorum_reads_only))]
+pub fn committees_read_only()
+    ensures { QuorumReadsOnly }
+{}
+
+/// A committee that its sizes do not turn down is within the limits.
+#[tactic(auto, using(crate::proofs::AdmittedLemmas::quorum_admitted))]
+pub fn committees_are_within_the_limits()
+    ensures { QuorumAdmitted }
 {}
