@@ -15,6 +15,7 @@ const ROOM: usize = 262144;
 
 // The most stakes, and the most words of a list, of a case.
 const STAKES: u64 = 4200;
+
 const WORDS: u64 = 8192;
 
 // The sampler of committees of k with the fallback of that number: 1 for a partition, 2 for draws by stake.
