@@ -177,3 +177,24 @@ at_leaf tree v index val weight holds chooses to past =
       place = omega (arith, place, leaf.within, holds.count);
       is = rw (place, leaf.weight_is);
     }
+
+-- a search has come down to an index: what the next step down asks, and what is known past the nodes
+pub record Falling (tree : Tree) (v index val weight : ℕ) : Type 0 where
+  pub reached : Reached (weights_of tree) v index val weight
+  pub asks : index < length tree.nodes.now → Asks (get_or tree.nodes.now index no_node).sums index val
+  pub leaf : length tree.nodes.now ≤ index → At tree v index weight
+
+falling : (tree : Tree) (v index val weight : ℕ) → Holds tree (weights_of tree) → v < tree.total → Reached (weights_of tree) v index val weight → Falling tree v index val weight
+falling tree v index val weight holds low reached = record {
+  reached = reached;
+  asks = reached_asks (weights_of tree) tree.nodes.now v holds.sums index val weight reached;
+  leaf = at_leaf tree v index val weight holds low reached;
+}
+
+pub falling_root : (tree : Tree) (v : ℕ) → Holds tree (weights_of tree) → v < tree.total → Falling tree v 0 v 0
+falling_root tree v holds low = falling tree v 0 v 0 holds low (reached_root (weights_of tree) tree.nodes.now v holds.sums (omega (arith, holds.total)))
+
+pub falling_next : (tree : Tree) (v index val weight : ℕ) → Holds tree (weights_of tree) → v < tree.total → Falling tree v index val weight → index < length tree.nodes.now →
+    (field : Field) → Falls (get_or tree.nodes.now index no_node).sums val field → (next : ℕ) → next ≡ 16 * index + field.offset + 1 → Falling tree v next field.val field.weight
+falling_next tree v index val weight holds low f within field falls next next_is =
+    falling tree v next field.val field.weight holds low (reached_next (weights_of tree) tree.nodes.now v holds.sums index val weight f.reached within field next falls next_is)
