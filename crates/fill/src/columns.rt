@@ -12,8 +12,8 @@ impl Columns<'_> {
     ghost use Rattle.std.specs.Prelude.{◌+◌};
     ghost use Rattle.fill.specs.Columns.{HaveRoom, SameLoans, PutAt};
 
-    /// Stores a piece at a place.
-    pub fn put(&mut self, at: usize, piece: Piece)
+    // Stores a piece at a place.
+    pub(crate) fn put(&mut self, at: usize, piece: Piece)
         requires { HaveRoom self.old (at + 1) }
         ensures put { PutAt self.old self.new at piece }
         ensures same { SameLoans self.old self.new }

@@ -14,6 +14,7 @@ fn choose(columns: &Columns, pieces: usize, seats: &mut [u64])
     ensures { seats.new ≡ replaced 0 (rows_of pieces columns.now) seats.old }
 {
     let mut next = 0;
+    // By index: the three columns are read at one place, and the next seat moves by itself.
     for at in 0..pieces {
         if columns.bins[at] == next as u64 && next < seats.len() {
             let value = seats[next];
