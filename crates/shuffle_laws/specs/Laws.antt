@@ -1,11 +1,11 @@
 -- What is promised of every step and of every order.
-use Rattle.std.specs.Prelude.{ℕ, ◌<◌, ◌≡◌, Some, Result, OnOk, List, length, get_or, take, sum, AllPairs}
+use Rattle.std.specs.Prelude.{ℕ, ◌<◌, ◌≤◌, ◌≡◌, Some, Result, OnOk, List, length, get_or, take, sum, AllPairs}
 use Rattle.refusals.specs.declared.refusal.Refusal.{Refusal}
 use Rattle.draws.specs.Weighted.{HasWeight}
 use Rattle.tree.specs.declared.node.Node.{Node}
 use Rattle.weighted_shuffle.specs.declared.entry.Order.{Order}
-use Rattle.weighted_shuffle.specs.Entry.{shuffle}
-use Rattle.weighted_shuffle.specs.Order.{Left, Step, counted, step, order}
+use Rattle.weighted_shuffle.specs.Entry.{shuffle, shuffled}
+use Rattle.weighted_shuffle.specs.Order.{Left, Step, counted, step, steps, order}
 use Rattle.shuffle_laws.specs.Orders.{count, IsOrder}
 
 -- while weight is left, a step takes a position whose weight is above 0
@@ -31,3 +31,11 @@ Law weights call = OnOk call.0 (Whole weights (take (length weights) call.1))
 
 abbrev pub CallsGiveWholeOrders : Type 0
 CallsGiveWholeOrders = (weights held : List ℕ) (nodes : List Node) (ws : List ℕ) → Law weights (shuffle weights held nodes ws)
+
+-- steps leave no more words than there were, so the words read are the difference
+abbrev pub StepsReadOnly : Type 0
+StepsReadOnly = (n : ℕ) (left : Left) (ws : List ℕ) → length (steps n left ws).1 ≤ length ws
+
+-- nor does a call, accepted or not
+abbrev pub OrdersReadOnly : Type 0
+OrdersReadOnly = (weights : List ℕ) (places nodes : ℕ) (ws : List ℕ) → length (shuffled weights places nodes ws).1 ≤ length ws
