@@ -32,7 +32,7 @@ committee f list first second = fallback f (kept_of (size_of f) list) (further (
 abbrev pub seats_of : Fallback → List ℕ → Parted → List ℕ
 seats_of f list p = repeated 0 (fixed_of (size_of f) list) ++ seat_ids p
 
--- over bins the columns have places for the pieces of n stakes
-abbrev pub Roomy : Fallback → Columns → ℕ → Type 0
-Roomy (Bins k) columns n = HaveRoom columns (n + k)
-Roomy (Draws k) columns n = Unit {0}
+-- over bins the columns have places for the pieces of n stakes and b seats
+abbrev pub Roomy : Fallback → Columns → ℕ → ℕ → Type 0
+Roomy (Bins k) columns n b = HaveRoom columns (n + b)
+Roomy (Draws k) columns n b = Unit {0}

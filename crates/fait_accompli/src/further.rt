@@ -4,7 +4,7 @@ ghost use Rattle.stake_weighted.specs.Seats.{iid_seats};
 ghost use Rattle.fill.specs.Columns.{HaveRoom, SameLoans};
 ghost use Rattle.partition.specs.Partition.{held_of};
 ghost use Rattle.fait_accompli.specs.declared.quorum.Fallback.TheVariants.{Bins};
-ghost use Rattle.fait_accompli.specs.Seats.{size_of, Roomy};
+ghost use Rattle.fait_accompli.specs.Seats.{Roomy};
 ghost use Rattle.fait_accompli.specs.Calls.{others, with_seats, placed_or};
 
 use crate::quorum::Fallback;
@@ -33,7 +33,6 @@ fn draw_over_bins<A: WordSource, B: WordSource>(
 ) -> Result<usize, Refusal>
     requires sum { kept.sum ≡ sum kept.stakes.now }
     requires some { 0 < length seats.old → 0 < kept.sum }
-    requires few { length seats.old ≤ 1024 }
     requires order { length order.old ≡ length kept.stakes.now }
     requires room { HaveRoom columns.old (length kept.stakes.now + length seats.old) }
     ensures drawn { (with_seats seats.new result, held_of columns.new, A.words first.new, B.words second.new)
@@ -64,6 +63,7 @@ fn draw_plainly<W: WordSource>(
     if seats.is_empty() {
         return Some(());
     }
+    // Never turned down here, since the sum is over 0 and fits 64 bits.
     let weights = Weights::new(kept, sums).ok()?;
     draw_seats(words, weights, seats)
 }
@@ -81,10 +81,8 @@ pub fn draw_further<A: WordSource, B: WordSource>(
     requires sum { kept.sum ≡ sum kept.stakes.now }
     requires fits { kept.sum < 2 ^ 64 }
     requires some { 0 < length seats.old → 0 < kept.sum }
-    requires few { length seats.old ≤ 1024 }
-    requires part { length seats.old ≤ size_of fallback }
     requires space { length space.old ≡ length kept.stakes.now }
-    requires room { Roomy fallback columns.old (length kept.stakes.now) }
+    requires room { Roomy fallback columns.old (length kept.stakes.now) (length seats.old) }
     ensures drawn { (with_seats seats.new result, held_of columns.new, A.words first.new, B.words second.new)
         ≡ placed_or (held_of columns.old)
         (others fallback kept.entry.stakes.now (length seats.old) (A.words first.old) (B.words second.old)) }

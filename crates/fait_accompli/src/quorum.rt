@@ -45,12 +45,11 @@ impl Fallback {
     // Whether the columns have places for the pieces of `n` stakes.
     fn check_pieces(self, columns: &Columns, n: usize) -> Result<(), Refusal>
         requires short { n ≤ 4096 }
-        requires some { 0 < size_of self }
         requires few { size_of self ≤ 1024 }
         ensures { result ≡ first_of (piece_checks self n (held_of columns.now)) }
     {
         match self {
-            Fallback::Bins(k) => check_columns(columns, n, k),
+            Fallback::Bins(k) => check_columns(columns, n + k),
             Fallback::Draws(_) => Ok(()),
         }
     }
@@ -142,7 +141,7 @@ impl FaitAccompli1Sampler {
         requires sum { list.sum ≡ sum list.stakes.now }
         requires some { 0 < list.sum }
         requires seats { size_of self.fallback ≤ length seats.old }
-        requires room { Roomy self.fallback columns.old (length list.stakes.now) }
+        requires room { Roomy self.fallback columns.old (length list.stakes.now) (size_of self.fallback) }
         ensures told { (result, (seats.new, held_of columns.new))
             ≡ told self.fallback list.entry.stakes.now (seats.old, held_of columns.old) (A.words first.old) (B.words second.old)
             (committee_over self.fallback list.entry.stakes.now (A.words first.old) (B.words second.old)) }

@@ -13,19 +13,24 @@ pub struct Bins {
     pub sum: u64,
 }
 
-/// Whether the columns have places for the pieces of `n` stakes in so many bins.
-pub fn check_columns(columns: &Columns, n: usize, bins: usize) -> Result<(), Refusal>
-    requires short { n ≤ 4096 }
-    requires few { bins ≤ 1024 }
-    ensures { result ≡ first_of (short_pieces (held_of columns.now) (most_pieces n bins)) }
+/// Whether each column has as many places as are needed.
+///
+/// # Errors
+///
+/// `ShortBuffer` where a column is shorter.
+pub fn check_columns(columns: &Columns, needed: usize) -> Result<(), Refusal>
+    ensures { result ≡ first_of (short_pieces (held_of columns.now) needed) }
 {
-    let most = if bins == 0 { 0 } else { n + bins };
-    check_room(columns.bins.len(), most)?;
-    check_room(columns.validators.len(), most)?;
-    check_room(columns.stakes.len(), most)
+    check_room(columns.bins.len(), needed)?;
+    check_room(columns.validators.len(), needed)?;
+    check_room(columns.stakes.len(), needed)
 }
 
-/// Bins for a sum, of which none would be empty.
+/// Bins for a sum, of which none would be empty. An entry with no bin never asks.
+///
+/// # Errors
+///
+/// `EmptyBin` where the bins before the last would hold the whole sum.
 pub fn check_bins(sum: u64, number: usize) -> Result<Bins, Refusal>
     requires { 0 < number }
     ensures fillable { IfOk result (Fillable sum) }

@@ -9,7 +9,7 @@ use fill::Columns;
 use refusals::{Refusal, check_list_length, check_room, check_size, check_sum};
 use words::WordSource;
 
-/// What stands in the lent seats and columns: how many pieces, and how many words of each source were read.
+/// A partition, whose seats and pieces stand in what was lent: how many pieces there are, and how many words of each source were read.
 #[derive(Clone, Copy, Debug, PartialEq, Eq)]
 pub struct Partition {
     pub pieces: usize,
@@ -62,7 +62,7 @@ impl PartitionSampler {
         check_list_length(n)?;
         check_size(b)?;
         check_room(seats.len(), b)?;
-        check_columns(columns, n, b)?;
+        check_columns(columns, if b == 0 { 0 } else { n + b })?;
         let sum = check_sum(stakes)?;
         if b == 0 {
             return Ok(Partition {
