@@ -12,18 +12,11 @@ use Rattle.shuffle_laws.proofs.TotalLemmas.{orders_whole_by_totals}
 use Rattle.turbine.specs.declared.turbine_tree.TurbineTree.{TurbineTree}
 use Rattle.turbine.specs.declared.turbine_tree.View.{View}
 use Rattle.turbine.specs.View.{position_of, root_of, parent_at, children_at, Neighborhood, neighborhood}
-use Rattle.turbine.specs.Calls.{Lent, view_checks, seen_by, view, tree_of, answered}
+use Rattle.turbine.specs.Calls.{view_checks, seen_by, view, tree_of, answered}
 use Rattle.view_laws.specs.Views.{positions, root, Viewed, parent_of, children_of, Names, ChildOfOne, ViewsConsistent}
 use Rattle.view_laws.proofs.TreeLemmas.{id_of, place_lt, id_at, id_lt, place_of, lists, listed, names_none, names_some, names, named, parent_before}
 use Rattle.view_laws.proofs.TreeLemmas as tree
-
--- what is known of a call that its input does not turn down
-record Admitted (n fanout own : ℕ) : Type 0 where
-  fanout_some : 0 < fanout
-  own_below : own < n
-
-admitted : (n fanout own : ℕ) (lent : Lent) → first_of (view_checks n fanout own lent) ≡ Ok tt → Admitted n fanout own
-admitted n fanout own lent e = record { fanout_some = grind arith; own_below = grind arith }
+use Rattle.view_laws.proofs.AdmittedLemmas.{view_admitted}
 
 none_of : (c : ℕ) → (0 < c → ⊥) → c ≡ 0
 none_of zero h = refl
@@ -54,7 +47,7 @@ module _ (stakes : List ℕ) (fanout : ℕ) (ws : List ℕ) where
           let call = accepted (first_of (view_checks n fanout own v.held)) ws (or_no_word (seen_by fanout own (order stakes ws))) s
           (ap (λ (o : Result Neighborhood Refusal × List ℕ). o.0) q) in
           let u = went (order stakes ws) (λ ps rest. (Some (neighborhood fanout own ps), rest)) s (drawn (seen_by fanout own (order stakes ws)) s call.is) in
-          let a = admitted n fanout own v.held call.passed in
+          let a = view_admitted n fanout own v.held call.passed in
           let is : ◌≡◌ {A = View} (record { tree = tree_of s; words_read = length ws - length left }) v.view = cc in
           let ids-are : ids ≡ u.value = ap positions u.first in
           let seen : neighborhood fanout own ids ≡ s = ap (neighborhood fanout own) ids-are ∙ cc in
