@@ -43,7 +43,7 @@ impl<'a> Tree<'a> {
 }
 
 impl Tree<'_> {
-    /// From the root down to the position that the value falls on.
+    // From the root down to the position that the value falls on. The way goes by index from node to node, so there is no list to iterate.
     fn find(&self, val: u64) -> Found
         requires holds { Holds self.now (weights_of self.now) }
         requires below { val < self.now.total }
@@ -66,7 +66,7 @@ impl Tree<'_> {
         }
     }
 
-    /// On the way from a position up to the root, one weight takes the place of another in each sum.
+    // On the way from a position up to the root, by index from node to node, one weight takes the place of another in each sum.
     fn change(&mut self, position: usize, from: u64, to: u64)
         requires holds { Holds self.old (weights_of self.old) }
         requires place { position < self.old.count }
