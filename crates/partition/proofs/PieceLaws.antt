@@ -261,7 +261,7 @@ pub last_some : (cap S b : ℕ) → 0 < b → (empty_bin cap S b).0 ≡ false �
 last_some cap S b some e = leb-false S ((b - 1) * cap) (rw (le-leb 1 b some) at e)
 
 -- with a bin, something is drawn
-parted_some : (weights : List ℕ) (b : ℕ) (first second : List ℕ) → 0 < b → parted weights b first second ≡ over_bins weights (capacity (sum weights) b) b first second
+pub parted_some : (weights : List ℕ) (b : ℕ) (first second : List ℕ) → 0 < b → parted weights b first second ≡ over_bins weights (capacity (sum weights) b) b first second
 parted_some weights b first second some = rw (ne_eqb b 0 (λ e. omega arith)) refl
 
 pub partitions_filled : PartitionsFilled

@@ -20,9 +20,9 @@ use Rattle.fill.specs.declared.piece.Piece.{Piece}
 use Rattle.fill.specs.Columns.{column_after}
 use Rattle.fixed_seats.specs.Fixed.{fixed, fixed_of, kept_of, further, repeated}
 use Rattle.fixed_seats.proofs.SeatLemmas.{sum-cons}
-use Rattle.partition.specs.Partition.{capacity, Parted, parted, over_bins, seat_ids, Given, short_pieces}
+use Rattle.partition.specs.Partition.{capacity, Parted, parted, seat_ids, Given, short_pieces}
 use Rattle.partition.specs.Pieces.{sum_of_pieces, Filled}
-use Rattle.partition.proofs.PieceLaws.{over, over_filled, over_none, over_two, over_seats, capacity_fits, last_some, passed}
+use Rattle.partition.proofs.PieceLaws.{over, over_filled, over_none, over_two, over_seats, capacity_fits, last_some, parted_some, passed}
 use Rattle.fait_accompli.specs.declared.quorum.Fallback.TheVariants.{Bins}
 use Rattle.fait_accompli.specs.Seats.{committee, seats_of}
 use Rattle.fait_accompli.specs.Calls.{quorum_checks, quorum, told}
@@ -66,10 +66,6 @@ columns_hold ps bs vs ss = front ps (drop (length ps) bs) (drop (length ps) vs) 
     front (p ∷ ps) bs vs ss = ap (p ∷◌) (front ps bs vs ss)
 
 -- ---- a committee whose further seats are drawn
-
--- with a bin, something is drawn
-parted_some : (weights : List ℕ) (b : ℕ) (first second : List ℕ) → 0 < b → parted weights b first second ≡ over_bins weights (capacity (sum weights) b) b first second
-parted_some weights b first second some = rw (ne_eqb b 0 (λ e. omega arith)) refl
 
 module _ (k : ℕ) (list : List ℕ) (seat : 0 < k) (some : 0 < total list) (p : Parted) where
   abbrev T : ℕ
@@ -145,7 +141,7 @@ module _ (k : ℕ) (list : List ℕ) (seat : 0 < k) (some : 0 < total list) (p :
           let fits : total weights ≤ b * cap = omega (arith, total_is_sum weights, capacity_fits (sum weights) b drawn) in
           let last : (b - 1) * cap < total weights = omega (arith, total_is_sum weights, last_some cap (sum weights) b drawn full) in
           fair_drawn drawn (over_seats weights cap b second o fits last) (over_none weights cap b second o fits last)
-          (over_two weights cap b second o fits last (kept_le k list seat some drawn))
+          (over_two weights cap b second o fits last (λ i. omega (arith, kept_at k list seat some i, kept_le k list seat some drawn (get_or list i 0))))
           (over_filled weights cap b second o fits last)
 
 -- ---- every accepted call

@@ -72,16 +72,15 @@ module _ (k : ℕ) (list : List ℕ) (seat : 0 < k) (some : 0 < total list) wher
       kept_none k T seat (get_or list i 0)
       (omega (arith, at_map (rest k T) (rw (zero-mul, zero-mod)) list i, total_is_sum (map (rest k T) list), total_at (map (rest k T) list) i))
 
-  -- no validator keeps more than a bin holds
-  pub kept_le : 0 < further k list → (i : ℕ) → get_or (kept_of k list) i 0 ≤ capacity (sum (kept_of k list)) (further k list)
-  kept_le drawn i =
+  -- no stake keeps more than a bin holds, in the list or not
+  pub kept_le : 0 < further k list → (s : ℕ) → kept k T s ≤ capacity (sum (kept_of k list)) (further k list)
+  kept_le drawn s =
       let b = further k list in
       let c = capacity (sum (kept_of k list)) b in
-      let s = get_or list i 0 in
       let enough : b * T ≤ sum (kept_of k list) * k =
       let whole : sum (fixed_of k list) + b ≡ k = omega (arith, fixed_le) in
       omega (arith, all_seated_or_kept k (sum list) list, ap (◌* sum list) whole, ap (b *◌) T_is) in
       let wide : b * T ≤ b * (c * k) = omega (arith, enough, mul-le-mul_right k (capacity_fits (sum (kept_of k list)) b drawn)) in
       let cap : T ≤ c * k = le_of_mul-le-mul_left {k = b} wide drawn in
       let less : kept k T s * k < suc c * k = omega (arith, kept_times k T seat s, mod-lt (s * k) some, mod-lt (fixed k T s * T) seat) in
-      rw (kept_at i) (omega (arith, lt_of_mul-lt-mul_right k less))
+      omega (arith, lt_of_mul-lt-mul_right k less)
