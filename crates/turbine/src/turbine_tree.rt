@@ -28,8 +28,8 @@ pub struct View {
 }
 
 impl TurbineTree {
-    /// Generates the view of the validator `own_id`, at most `fanout` children each, by the words of the source. Stakes are in any unit,
-    /// and one that would take the sum past 64 bits counts as 0.
+    /// Generates the view of the validator `own_id` in a tree in which each validator has at most `fanout` children, by the words of the
+    /// source. Stakes are in any unit, and one that would take the sum past 64 bits counts as 0.
     ///
     /// The whole order is left at the front of `order`, which has a place for each validator, the children at the front of `children`,
     /// which has the smaller of `fanout` and their number, and the sums of the `tree_size` nodes of the tree are 0.

@@ -18,7 +18,11 @@ pub struct Order {
 }
 
 /// The order, written to the front of `order`. The lent nodes hold the tree meanwhile: after a whole order the sums of the first nodes
-/// are 0, and where the call is turned down the nodes hold what they held.
+/// are 0.
+///
+/// # Errors
+///
+/// In this order: `ListLength` for more than 4,096 weights, `ShortBuffer` and `NoWordLeft`. What is lent then holds what it held.
 pub fn shuffle<W: WordSource + Drop>(
     weights: &[u64],
     words: W,

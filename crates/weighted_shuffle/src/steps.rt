@@ -38,7 +38,8 @@ fn step<W: WordSource>(words: &mut W, tree: &mut Tree, drawn: &mut [u64], i: usi
     Some(position)
 }
 
-/// Draws all positions; `None` where the words run out. After the last, every sum in the tree is 0.
+// Draws all positions; `None` where the words run out. After the last, every sum in the tree is 0. By index, since a step reads and
+// writes other places of `drawn` too.
 pub(crate) fn draw_order<W: WordSource>(
     words: &mut W,
     tree: &mut Tree,
