@@ -58,18 +58,25 @@ pub extern "C" fn valwydr_stake_sum(stakes: &[u64], stored: &mut u64) -> bool
     store(Stake::sum(stakes), stored)
 }
 
-/// The stake in decimal digits, written to the front of the buffer.
-#[unsafe(no_mangle)]
-pub extern "C" fn valwydr_stake_fmt(stake: u64, buffer: &mut [u8], written: &mut usize) -> bool
-    ensures { (result, buffer.new, written.new) ≡ digits_told written.old (write_decimal stake buffer.old) }
+// Whether the digits have room, which are then written, and their count stored.
+fn write(number: u64, buffer: &mut [u8], written: &mut usize) -> bool
+    ensures { (result, buffer.new, written.new) ≡ digits_told written.old (write_decimal number buffer.old) }
 {
-    match write_decimal(stake, buffer) {
+    match write_decimal(number, buffer) {
         Some(count) => {
             *written = count;
             true
         }
         None => false,
     }
+}
+
+/// The stake in decimal digits, written to the front of the buffer.
+#[unsafe(no_mangle)]
+pub extern "C" fn valwydr_stake_fmt(stake: u64, buffer: &mut [u8], written: &mut usize) -> bool
+    ensures { (result, buffer.new, written.new) ≡ digits_told written.old (write_decimal stake buffer.old) }
+{
+    write(stake, buffer, written)
 }
 
 /// A validator's id, likewise.
@@ -81,5 +88,5 @@ pub extern "C" fn valwydr_validator_index_fmt(
 ) -> bool
     ensures { (result, buffer.new, written.new) ≡ digits_told written.old (write_decimal id buffer.old) }
 {
-    valwydr_stake_fmt(id, buffer, written)
+    write(id, buffer, written)
 }
