@@ -89,7 +89,7 @@ fn quorum_agrees(text: &mut Reader, alloc: Global) -> Option<bool>
     Some(same && cases::holds(&seats, &seated) && are_left(&counts, &before, &counted))
 }
 
-// A reset: the counts before, and after it.
+// A reset: the counts before, and after it all of them.
 fn reset_agrees(text: &mut Reader, alloc: Global) -> Option<bool>
     ensures { length text.new ≤ length text.old }
 {
@@ -98,7 +98,7 @@ fn reset_agrees(text: &mut Reader, alloc: Global) -> Option<bool>
     let counted = text.list_if(refusal == 0, STAKES, alloc)?;
     let mut counts = counts_of(&before, alloc)?;
     DecayingAcceptanceSampler::new(1.0, 1, 1).reset(&mut counts);
-    Some(refusal == 0 && are_left(&counts, &before, &counted))
+    Some(refusal == 0 && counted.len() == counts.len() && are_left(&counts, &before, &counted))
 }
 
 struct DecayingCases;

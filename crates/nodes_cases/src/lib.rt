@@ -20,15 +20,15 @@ fn holds(node: &Node, sum: u64) -> bool
     node.sums.iter().all(|value| *value == sum)
 }
 
-/// Whether each sum of all the nodes is `held`, as before: so after a refused call.
-pub fn kept(nodes: &[Node], held: u64) -> bool
+// Whether each sum of all the nodes is `held`, as before: so after a refused call.
+fn kept(nodes: &[Node], held: u64) -> bool
     ensures { result ≡ every_sum held nodes.now }
 {
     nodes.iter().all(|node| holds(node, held))
 }
 
-/// Whether the nodes of the tree of n weights are zeros, and each sum of the others is `held`, as before: so after an accepted call.
-pub fn cleared(nodes: &[Node], n: usize, held: u64) -> bool
+// Whether the nodes of the tree of n weights are zeros, and each sum of the others is `held`, as before: so after an accepted call.
+fn cleared(nodes: &[Node], n: usize, held: u64) -> bool
     ensures { result ≡ zeros_then n held nodes.now }
 {
     let size = get_num_nodes_and_tree_size(n).tree_size.min(nodes.len());
