@@ -7,7 +7,9 @@ use Rattle.weighted_shuffle.specs.Order.{Left, Step, counted, step, order}
 
 -- while weight is left, a step takes a position whose weight is above 0
 abbrev pub StepsByTotal : Type 0
-StepsByTotal = (left : Left) (ws : List ℕ) (s : Step) → 0 < total left.weights → (step left ws).0 ≡ Some s → (s.position < length left.weights) × (0 < get_or left.weights s.position 0)
+StepsByTotal =
+    (left : Left) (ws : List ℕ) (s : Step) → 0 < total left.weights → (step left ws).0 ≡ Some s →
+    (s.position < length left.weights) × (0 < get_or left.weights s.position 0)
 
 -- every position is of weight zero
 abbrev pub AllZero : List ℕ → List ℕ → Type 0
