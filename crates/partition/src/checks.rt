@@ -13,6 +13,15 @@ pub struct Bins {
     pub sum: u64,
 }
 
+// How many pieces `n` stakes in so many bins make at most.
+pub(crate) fn most_pieces(n: usize, bins: usize) -> usize
+    requires short { n ≤ 4096 }
+    requires few { bins ≤ 1024 }
+    ensures { result ≡ most_pieces n bins }
+{
+    if bins == 0 { 0 } else { n + bins }
+}
+
 /// Whether each column has as many places as are needed.
 ///
 /// # Errors

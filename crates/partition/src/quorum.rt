@@ -4,7 +4,7 @@ ghost use Rattle.partition.specs.Calls.{told, sample_quorum};
 ghost use Rattle.fill.specs.Columns.{HaveRoom, SameLoans};
 
 use crate::bins::draw_bins;
-use crate::checks::{Bins, check_bins, check_columns};
+use crate::checks::{Bins, check_bins, check_columns, most_pieces};
 use fill::Columns;
 use refusals::{Refusal, check_list_length, check_room, check_size, check_sum};
 use words::WordSource;
@@ -62,7 +62,7 @@ impl PartitionSampler {
         check_list_length(n)?;
         check_size(b)?;
         check_room(seats.len(), b)?;
-        check_columns(columns, if b == 0 { 0 } else { n + b })?;
+        check_columns(columns, most_pieces(n, b))?;
         let sum = check_sum(stakes)?;
         if b == 0 {
             return Ok(Partition {
