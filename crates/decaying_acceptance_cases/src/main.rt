@@ -105,6 +105,7 @@ struct DecayingCases;
 
 impl Cases for DecayingCases {
     fn replay(operation: u64, text: &mut Reader, alloc: Global) -> Option<bool> {
+        // A stored text names an operation by its number.
         match operation {
             1 => one_agrees(text, alloc),
             2 => quorum_agrees(text, alloc),

@@ -125,7 +125,8 @@ impl FaitAccompli1Sampler {
         }
     }
 
-    // A committee in scratch space for up to N stakes and K seats, since zeroing what is not needed costs time.
+    // A committee in scratch space for up to N stakes and K seats, since zeroing what is not needed costs time. That N and K are small is
+    // asked, as no type says it.
     fn in_scratch<A: WordSource, B: WordSource, const N: usize, const K: usize>(
         self,
         list: Summed,

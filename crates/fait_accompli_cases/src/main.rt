@@ -68,6 +68,7 @@ struct FaitAccompliCases;
 impl Cases for FaitAccompliCases {
     // The operation's number is the fallback's.
     fn replay(operation: u64, text: &mut Reader, alloc: Global) -> Option<bool> {
+        // A stored text names an operation by its number.
         match operation {
             1 | 2 => quorum_agrees(operation, text, alloc),
             _ => None,

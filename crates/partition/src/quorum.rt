@@ -82,7 +82,8 @@ impl PartitionSampler {
     }
 }
 
-// In scratch space for up to N stakes and K seats, since zeroing what is not needed costs time.
+// In scratch space for up to N stakes and K seats, since zeroing what is not needed costs time. That N and K are small is asked, as no
+// type says it.
 fn in_scratch<A: WordSource, B: WordSource, const N: usize, const K: usize>(
     stakes: &[u64],
     bins: Bins,

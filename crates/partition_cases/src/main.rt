@@ -53,6 +53,7 @@ struct PartitionCases;
 
 impl Cases for PartitionCases {
     fn replay(operation: u64, text: &mut Reader, alloc: Global) -> Option<bool> {
+        // A stored text names an operation by its number.
         match operation {
             1 => quorum_agrees(text, alloc),
             _ => None,

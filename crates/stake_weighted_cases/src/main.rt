@@ -55,6 +55,7 @@ struct StakeWeightedCases;
 
 impl Cases for StakeWeightedCases {
     fn replay(operation: u64, text: &mut Reader, alloc: Global) -> Option<bool> {
+        // A stored text names an operation by its number.
         match operation {
             1 => sample_agrees(text, alloc),
             2 => quorum_agrees(text, alloc),

@@ -135,6 +135,7 @@ struct TurbineCases;
 
 impl Cases for TurbineCases {
     fn replay(operation: u64, text: &mut Reader, alloc: Global) -> Option<bool> {
+        // A stored text names an operation by its number.
         match operation {
             1 => view_agrees(text, alloc),
             2 => seed_agrees(true, text, alloc),

@@ -3,7 +3,8 @@ ghost use Rattle.std.specs.Prelude.{◌≡◌};
 use std::fmt;
 use std::marker::Model;
 
-/// Index of a validator in an epoch's list of validators.
+/// Index of a validator in an epoch's list of validators. A type of its own beside `Stake`, as in the original: neither takes the other's
+/// methods, and the two can't be mixed up.
 #[derive(Clone, Copy, Debug, Default, PartialEq, Eq, PartialOrd, Ord, Hash)]
 pub struct ValidatorIndex(u64);
 

@@ -12,6 +12,7 @@ use words::ListWords;
 
 /// One seat from each bin, written to the front of `seats`; the pieces in fill order are written to the front of the columns. The answer:
 /// the number of pieces, the words read of each list.
+// Over seven parameters: C passes each slice and each cursor by itself.
 #[unsafe(no_mangle)]
 pub extern "C" fn valwydr_partition_sample_quorum(
     num_bins: usize,
@@ -66,6 +67,7 @@ fn committee_values(committee: Committee) -> [u64; 4]
 
 /// A committee of `k`: the fixed seats, then those from bins, with the pieces in their columns. The answer: how many seats are not fixed,
 /// the number of pieces, the words read of each list.
+// Over seven parameters: C passes each slice and each cursor by itself.
 #[unsafe(no_mangle)]
 pub extern "C" fn valwydr_fait_accompli1_with_partition_fallback(
     k: usize,

@@ -36,6 +36,7 @@ pub extern "C" fn valwydr_decaying_acceptance_sample_one(
 
 /// A committee of `k`, written to the front of `seats`; the counts of the list's validators are then 0. The answer: the tries made over all
 /// seats, the words read.
+// Over seven parameters: C passes each slice and each cursor by itself.
 #[unsafe(no_mangle)]
 pub extern "C" fn valwydr_decaying_acceptance_sample_quorum(
     max_samples: f64,

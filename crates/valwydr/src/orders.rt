@@ -46,6 +46,7 @@ pub extern "C" fn valwydr_weighted_shuffle(
 
 /// What the validator `own_id` sees of the Turbine tree: the order and the children are written to the front of their buffers, and the nodes
 /// of the tree are then zeros. The answer: the root's id, the parent's or the number that is no id, the number of children, the words read.
+// Over seven parameters: C passes each slice and each cursor by itself.
 #[unsafe(no_mangle)]
 pub extern "C" fn valwydr_turbine_tree_new(
     stakes: &[u64],

@@ -63,7 +63,8 @@ pub fn shuffle_into<W: WordSource>(
     }
 }
 
-// In scratch space for up to N weights and M nodes, since zeroing what is not needed costs time.
+// In scratch space for up to N weights and M nodes, since zeroing what is not needed costs time. That N and M are small is asked, as no
+// type says it.
 fn in_scratch<W: WordSource, const N: usize, const M: usize>(
     weights: &[u64],
     words: &mut W,

@@ -114,6 +114,7 @@ struct ShuffleCases;
 
 impl Cases for ShuffleCases {
     fn replay(operation: u64, text: &mut Reader, alloc: Global) -> Option<bool> {
+        // A stored text names an operation by its number.
         match operation {
             1 => sizes_agree(text),
             2 => begin_agrees(text, alloc),
