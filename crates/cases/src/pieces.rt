@@ -3,12 +3,11 @@ ghost use Rattle.cases.specs.Numbers.{four_if};
 ghost use Rattle.cases.specs.Lent.{AreHeld, AreLent};
 
 use crate::buffer::{holds, lent};
+use crate::limits::SEATS;
 use crate::reader::Reader;
 use std::alloc::Global;
 
-// The most seats that are lent, and the most pieces and seats that a case names.
-const SEATS: u64 = 1100;
-
+// The most pieces and seats that a case names.
 const PIECES: u64 = 5300;
 
 /// What a call over bins is lent, or is to leave at the front of it: seats, and the bins, validators and stakes of the pieces.

@@ -4,7 +4,7 @@
 ghost use Rattle.std.specs.Prelude.{◌≡◌, ◌≤◌, ◌↔◌, length, IfSome, IsTrue};
 ghost use Rattle.decaying_acceptance_cases.specs.Counts.{AreLeft};
 
-use cases::{Cases, Reader};
+use cases::{Cases, Reader, SEATS, STAKES, WORDS};
 use decaying_acceptance::DecayingAcceptanceSampler;
 use std::alloc::Global;
 use std::io;
@@ -13,13 +13,6 @@ use words::ListWords;
 
 // A text of so many bytes is too long.
 const ROOM: usize = 262144;
-
-// The most stakes or counts, words and seats of a case.
-const STAKES: u64 = 4200;
-
-const WORDS: u64 = 8192;
-
-const SEATS: u64 = 1100;
 
 // Numbers as counts; `None` where one exceeds a u32.
 fn counts_of(numbers: &[u64], alloc: Global) -> Option<Vec<u32>>

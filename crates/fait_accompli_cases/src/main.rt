@@ -3,7 +3,7 @@
 
 ghost use Rattle.std.specs.Prelude.{◌≤◌, length};
 
-use cases::{Cases, Lists, Reader};
+use cases::{Cases, Lists, Reader, STAKES, WORDS};
 use fait_accompli::FaitAccompli1Sampler;
 use fill::Columns;
 use std::alloc::Global;
@@ -12,11 +12,6 @@ use words::ListWords;
 
 // A text of so many bytes is too long.
 const ROOM: usize = 262144;
-
-// The most stakes, and the most words of a list, of a case.
-const STAKES: u64 = 4200;
-
-const WORDS: u64 = 8192;
 
 // The sampler of committees of k with the fallback of that number: 1 for a partition, 2 for draws by stake.
 fn sampler_of(fallback: u64, k: u64) -> FaitAccompli1Sampler {

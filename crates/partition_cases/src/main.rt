@@ -3,7 +3,7 @@
 
 ghost use Rattle.std.specs.Prelude.{◌≤◌, length};
 
-use cases::{Cases, Lists, Reader};
+use cases::{Cases, Lists, Reader, STAKES, WORDS};
 use fill::Columns;
 use partition::PartitionSampler;
 use std::alloc::Global;
@@ -12,11 +12,6 @@ use words::ListWords;
 
 // A text of so many bytes is too long.
 const ROOM: usize = 262144;
-
-// The most stakes, and the most words of a list, of a case.
-const STAKES: u64 = 4200;
-
-const WORDS: u64 = 8192;
 
 // A partition. The numbers are the bins, both cursors and how many places of each buffer are lent; the case expects the words read of both
 // lists, then the seats and the pieces.

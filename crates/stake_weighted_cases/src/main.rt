@@ -3,7 +3,7 @@
 
 ghost use Rattle.std.specs.Prelude.{◌≤◌, length};
 
-use cases::{Cases, Reader};
+use cases::{Cases, Reader, SEATS, STAKES, WORDS};
 use stake_weighted::{IidQuorumSampler, StakeWeightedSampler};
 use std::alloc::Global;
 use std::io;
@@ -11,13 +11,6 @@ use words::ListWords;
 
 // A text of so many bytes is too long.
 const ROOM: usize = 262144;
-
-// The most stakes, words and seats of a case.
-const STAKES: u64 = 4200;
-
-const WORDS: u64 = 8192;
-
-const SEATS: u64 = 1100;
 
 // One validator. The case's number is the cursor; it expects the id and the words read.
 fn sample_agrees(text: &mut Reader, alloc: Global) -> Option<bool>

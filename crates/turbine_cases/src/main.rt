@@ -4,7 +4,7 @@
 ghost use Rattle.std.specs.Prelude.{◌≡◌, ◌≤◌, ◌↔◌, length, IsTrue};
 ghost use Rattle.turbine_cases.specs.Seeds.{IsWritten};
 
-use cases::{Cases, Reader};
+use cases::{Cases, Reader, SEATS, STAKES, WORDS};
 use refusals::Refusal;
 use rotor::{TOTAL_SHREDS, sample_relay};
 use seeds::{rotor_seed, turbine_seed};
@@ -17,13 +17,7 @@ use words::ListWords;
 // A text of so many bytes is too long.
 const ROOM: usize = 524288;
 
-// The most stakes and places, words, seats and bytes of a seed of a case.
-const STAKES: u64 = 4200;
-
-const WORDS: u64 = 8192;
-
-const SEATS: u64 = 1100;
-
+// The most bytes of a seed of a case.
 const BYTES: u64 = 64;
 
 // What each sum of the lent nodes is before a call, and each byte of a lent seed.

@@ -3,7 +3,7 @@
 
 ghost use Rattle.std.specs.Prelude.{◌≤◌, length};
 
-use cases::{Cases, Reader};
+use cases::{Cases, Reader, WORDS};
 use refusals::Refusal;
 use std::alloc::Global;
 use std::io;
@@ -14,10 +14,8 @@ use words::ListWords;
 // A text of so many bytes is too long.
 const ROOM: usize = 524288;
 
-// The most weights and places, words, positions and sums of a case.
+// The most weights and places, positions and sums of a case.
 const WEIGHTS: u64 = 4200;
-
-const WORDS: u64 = 8192;
 
 const POSITIONS: u64 = 4096;
 
