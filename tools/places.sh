@@ -47,6 +47,6 @@ count 6a 'a place in a text beside the text' words 'text: &\[u8\], at: usize'
 count 6b 'states in arrays' words '\bWords\b = \[u64; 1\]|&mut Words\b'
 count 6c 'weights with their running sums beside them' words 'sums: &(mut )?\[u64\]'
 count 7a 'switches on the number of an operation' lines 'match operation|operation == '
-count 8a 'files of answers and invariants' find crates -path '*/proofs/*' \( -name Answers.antt -o -name Invariants.antt -o -name Proof.antt \)
-count 8b 'lines of them' bash -c "find crates -path '*/proofs/*' \( -name Answers.antt -o -name Invariants.antt -o -name Proof.antt \) -exec cat {} +"
-count 8c 'lines of proofs in all' bash -c "find crates -path '*/proofs/*' -name '*.antt' -exec cat {} +"
+count 8a 'files of answers and invariants' find crates/*/proofs \( -name Answers.antt -o -name Invariants.antt -o -name Proof.antt \)
+count 8b 'lines of them' bash -c "find crates/*/proofs \( -name Answers.antt -o -name Invariants.antt -o -name Proof.antt \) -exec cat {} +"
+count 8c 'lines of proofs in all' bash -c "find crates/*/proofs -name '*.antt' -exec cat {} +"
