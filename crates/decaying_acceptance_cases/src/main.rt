@@ -8,6 +8,7 @@ use cases::{Cases, Reader, SEATS, STAKES, WORDS};
 use decaying_acceptance::DecayingAcceptanceSampler;
 use std::alloc::Global;
 use std::io;
+// Not a method of f64: a NaN keeps its bits.
 use std::num::f64_from_bits_with_nan;
 use words::ListWords;
 

@@ -83,7 +83,7 @@ impl Stake {
         }
     }
 
-    /// The lesser of two stakes.
+    /// The lesser of two stakes, under the original's name.
     pub fn min(self, other: Self) -> Self
         ensures { result ≡ min self other }
     {

@@ -10,7 +10,7 @@ use types::ValidatorIndex;
 use weighted_shuffle::shuffle;
 use words::ListWords;
 
-// What stands for the parent of the root, which has none.
+// What stands for the parent of the root, which has none: C has no `Option`.
 const NO_PARENT: u64 = u64::MAX;
 
 /// The nodes of a full tree that could hold so many weights, and those that have children: the answer.
