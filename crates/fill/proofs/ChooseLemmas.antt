@@ -1,7 +1,7 @@
 -- Values with validators in their places, one piece at a time.
-use Rattle.std.proofs.Common.{◌≡◌, ℕ, zero, suc, ◌+◌, ◌-◌, ◌<◌, ◌≤◌, if◌then◌else◌, ◌&&◌, List, [], ◌∷◌, length, get_or, take, drop, set, refl, ap, arith, take_at}
+use Rattle.std.proofs.Common.{◌≡◌, ℕ, zero, suc, ◌+◌, ◌-◌, ◌<◌, ◌≤◌, if◌then◌else◌, ◌&&◌, List, [], ◌∷◌, length, get_or, take, drop, set, refl, ap, arith, take_at, Bool, true, false, lt-ltb, le-ltb}
 use Rattle.std.specs.Prelude.{◌==◌, nat_lt}
-use Rattle.std.proofs.lemmas.List.{length-map}
+use Rattle.std.proofs.lemmas.List.{length-map, length-set, get_or-set_same, set-set}
 use Rattle.fill.specs.declared.piece.Piece.{Piece}
 use Rattle.fill.specs.declared.columns.Columns.{Columns}
 use Rattle.fill.specs.Columns.{HaveRoom, Begin}
@@ -27,10 +27,31 @@ rows-end (j ∷ bins) [] stakes (suc n) (suc at) end = refl
 rows-end (j ∷ bins) (i ∷ validators) [] (suc n) (suc at) end = refl
 rows-end (j ∷ bins) (i ∷ validators) (x ∷ stakes) (suc n) (suc at) end = rows-end bins validators stakes n at (omega arith)
 
-pub replaced_step : (next n at : ℕ) (columns : Columns) (held : List ℕ) → at < n → HaveRoom columns n →
-    replaced next (drop at (rows_of n columns)) held
-    ≡ (if get_or columns.bins.now at 0 == next && nat_lt next (length held) then (if nat_lt (get_or held next 0) (get_or columns.stakes.now at 0) then replaced (next + 1) (drop (at + 1) (rows_of n columns)) (set held next (get_or columns.validators.now at 0)) else replaced next (drop (at + 1) (rows_of n columns)) (set held next (get_or held next 0 - get_or columns.stakes.now at 0))) else replaced next (drop (at + 1) (rows_of n columns)) held)
-replaced_step next n at columns held low room = let after : at + 1 ≡ suc at = omega arith in rw (after, rows-at columns.bins.now columns.validators.now columns.stakes.now n at low room.bins room.validators room.stakes) refl
+-- what one piece does to the value of the next bin
+pub replaced_step : (next n at value : ℕ) (columns : Columns) (held : List ℕ) → at < n → next < length held → HaveRoom columns n →
+    replaced next (drop at (rows_of n columns)) (set held next value)
+    ≡ (if nat_lt value (get_or columns.stakes.now at 0) && get_or columns.bins.now at 0 == next
+    then replaced (next + 1) (drop (at + 1) (rows_of n columns)) (set held next (get_or columns.validators.now at 0))
+    else replaced next (drop (at + 1) (rows_of n columns)) (set held next (if get_or columns.bins.now at 0 == next then value - get_or columns.stakes.now at 0 else value)))
+replaced_step next n at value columns held low within room =
+    let after : at + 1 ≡ suc at = omega arith in
+    rw (after, rows-at columns.bins.now columns.validators.now columns.stakes.now n at low room.bins room.validators room.stakes, length-set held next value, lt-ltb next (length held) within, get_or-set_same held next value 0 within, set-set held next value (get_or columns.validators.now at 0), set-set held next value (value - get_or columns.stakes.now at 0))
+    (go (get_or columns.bins.now at 0 == next) (nat_lt value (get_or columns.stakes.now at 0)) _ (λ (v : ℕ). replaced next (drop (suc at) (rows_of n columns)) (set held next v)) (value - get_or columns.stakes.now at 0) value)
+  where
+    go : (b d : Bool) (x : List ℕ) (f : ℕ → List ℕ) (u v : ℕ) → (if b && true then (if d then x else f u) else f v) ≡ (if d && b then x else f (if b then u else v))
+    go true true x f u v = refl
+    go true false x f u v = refl
+    go false true x f u v = refl
+    go false false x f u v = refl
+
+-- with a validator in each place nothing is left to choose
+pub replaced_full : (next : ℕ) (ps : List Piece) (held : List ℕ) → length held ≤ next → replaced next ps held ≡ held
+replaced_full next [] held full = refl
+replaced_full next (p ∷ ps) held full = rw (le-ltb next (length held) full) (go (p.bin == next) _ _ (replaced_full next ps held full))
+  where
+    go : (b : Bool) (x y : List ℕ) → y ≡ held → (if b && false then x else y) ≡ held
+    go true x y same = same
+    go false x y same = same
 
 pub replaced_end : (next n at : ℕ) (columns : Columns) (held : List ℕ) → n ≤ at → replaced next (drop at (rows_of n columns)) held ≡ held
 replaced_end next n at columns held end = rw (rows-end columns.bins.now columns.validators.now columns.stakes.now n at end) refl
