@@ -9,7 +9,7 @@ use Rattle.stake_weighted.proofs.AdmittedLemmas.{quorum_reads_only}
 use Rattle.fixed_seats.specs.Fixed.{kept_of, further}
 use Rattle.partition.specs.Partition.{Parted, Held}
 use Rattle.partition.specs.Laws.{ReadsOnly}
-use Rattle.partition.proofs.AdmittedLemmas.{partition_reads_only, have_places}
+use Rattle.partition.proofs.AdmittedLemmas.{partition_reads_only, have_places, have_stake}
 use Rattle.fait_accompli.specs.declared.quorum.Fallback.{Fallback}
 use Rattle.fait_accompli.specs.declared.quorum.Fallback.TheVariants.{Bins, Draws}
 use Rattle.fait_accompli.specs.Seats.{size_of}
@@ -36,11 +36,20 @@ have_pieces (Draws k) n held checks e = tt
 pub committee_admitted : CommitteeAdmitted
 committee_admitted f list (seats, held) e =
     let n = length list in
-    let last = sum_checks list ++ bin_checks f (kept_of (size_of f) list) (further (size_of f) list) in
+    let bins = bin_checks f (kept_of (size_of f) list) (further (size_of f) list) in
+    let last = sum_checks list ++ bins in
     let columns = piece_checks f n held ++ last in
     let a = past (list_length n) (size_of_some (size_of f) ∷ short_buffer (length seats) (size_of f) ∷ columns) e in
     let b = past (size_of_some (size_of f)) (short_buffer (length seats) (size_of f) ∷ columns) a.others in
     let c = past (short_buffer (length seats) (size_of f)) columns b.others in
     let stakes = within_limit 4096 n a.not_first in
     let size = within_limit 1024 (size_of f) b.not_first in
-    record { some = stakes.some; list = stakes.most; seat = size.some; size = size.most; room = ltb-false (length seats) (size_of f) c.not_first; pieces = have_pieces f n held last c.others }
+    record {
+      some = stakes.some;
+      list = stakes.most;
+      seat = size.some;
+      size = size.most;
+      room = ltb-false (length seats) (size_of f) c.not_first;
+      pieces = have_pieces f n held last c.others;
+      some_stake = have_stake (piece_checks f n held) list bins c.others;
+    }

@@ -1,5 +1,5 @@
 -- What is promised of every accepted call, and of the words that it leaves.
-use Rattle.std.specs.Prelude.{ℕ, ◌+◌, ◌≤◌, ◌≡◌, Ok, List, length}
+use Rattle.std.specs.Prelude.{ℕ, ◌+◌, ◌≤◌, ◌<◌, ◌≡◌, Ok, List, length, sum}
 use Rattle.refusals.specs.Refusal.{first_of}
 use Rattle.partition.specs.Partition.{Held}
 use Rattle.partition.specs.Calls.{Lent}
@@ -22,14 +22,15 @@ abbrev pub HasPieces : Fallback → ℕ → Held → Type 0
 HasPieces (Bins k) n held = HasPlaces held (n + k)
 HasPieces (Draws k) n held = Unit {0}
 
--- the sizes of a call that its checks do not turn down
-pub record Admitted (f : Fallback) (n : ℕ) (lent : Lent) : Type 0 where
-  pub some : 1 ≤ n
-  pub list : n ≤ 4096
+-- the sizes of a call that its checks do not turn down, and the sum of its stakes
+pub record Admitted (f : Fallback) (stakes : List ℕ) (lent : Lent) : Type 0 where
+  pub some : 1 ≤ length stakes
+  pub list : length stakes ≤ 4096
   pub seat : 1 ≤ size_of f
   pub size : size_of f ≤ 1024
   pub room : size_of f ≤ length lent.0
-  pub pieces : HasPieces f n lent.1
+  pub pieces : HasPieces f (length stakes) lent.1
+  pub some_stake : 0 < sum stakes
 
 abbrev pub CommitteeAdmitted : Type 0
-CommitteeAdmitted = (f : Fallback) (list : List ℕ) (lent : Lent) → first_of (quorum_checks f list lent) ≡ Ok tt → Admitted f (length list) lent
+CommitteeAdmitted = (f : Fallback) (list : List ℕ) (lent : Lent) → first_of (quorum_checks f list lent) ≡ Ok tt → Admitted f list lent

@@ -1,5 +1,5 @@
 -- The capacity, the sizes of a call that is not turned down, and the words that it leaves.
-use Rattle.std.proofs.Common.{◌≡◌, ℕ, ◌≤◌, Bool, true, false, if◌then◌else◌, Option, Some, None, Ok, List, [], ◌∷◌, ◌++◌, length, sum, arith, ltb-false}
+use Rattle.std.proofs.Common.{◌≡◌, ℕ, ◌≤◌, ◌<◌, Bool, true, false, if◌then◌else◌, Option, Some, None, Ok, List, [], ◌∷◌, ◌++◌, length, sum, arith, ltb-false}
 use Rattle.std.specs.Prelude.{◌==◌}
 use Rattle.std.proofs.lemmas.Grind.{div_ceil_times}
 use Rattle.laws.specs.Orders.{ids_from}
@@ -9,6 +9,7 @@ use Rattle.words.specs.Draw.{after}
 use Rattle.draws.specs.declared.weighted.Place.{Place}
 use Rattle.draws.specs.Weighted.{weighted}
 use Rattle.draws.specs.Shuffle.{shuffle}
+use Rattle.draws.proofs.CallLemmas.{passed, some_sum}
 use Rattle.draws.proofs.DrawLemmas.{after_leaves, draws_read_only}
 use Rattle.fill.specs.declared.piece.Piece.{Piece}
 use Rattle.fill.specs.Fill.{Share, share_stakes, in_order, fill, pieces}
@@ -52,6 +53,10 @@ partition_reads_only weights b first second = go (b == 0)
     go true = record { of_first = omega arith; of_second = omega arith }
     go false = bins_read_only weights (capacity (sum weights) b) b first second
 
+-- the stakes sum to something, where no check of the columns or of the sum applies, whatever checks follow
+pub have_stake : (columns : List Check) (stakes : List ℕ) (checks : List Check) → first_of (columns ++ (sum_checks stakes ++ checks)) ≡ Ok tt → 0 < sum stakes
+have_stake columns stakes checks e = some_sum stakes (passed (sum_checks stakes) checks (passed columns (sum_checks stakes ++ checks) e).1).0
+
 -- a place for each piece in each column, where no check of them applies, whatever checks follow
 pub have_places : (held : Held) (needed : ℕ) (checks : List Check) → first_of (short_pieces held needed ++ checks) ≡ Ok tt → HasPlaces held needed
 have_places (bins, validators, stakes) needed checks e =
@@ -63,10 +68,18 @@ have_places (bins, validators, stakes) needed checks e =
 pub partition_admitted : PartitionAdmitted
 partition_admitted stakes b (places, held) e =
     let n = length stakes in
-    let last = sum_checks stakes ++ (empty_bin (capacity (sum stakes) b) (sum stakes) b ∷ []) in
+    let empty = empty_bin (capacity (sum stakes) b) (sum stakes) b ∷ [] in
+    let last = sum_checks stakes ++ empty in
     let columns = short_pieces held (most_pieces n b) ++ last in
     let a = past (list_length n) (size b ∷ short_buffer (length places) b ∷ columns) e in
     let c = past (size b) (short_buffer (length places) b ∷ columns) a.others in
     let d = past (short_buffer (length places) b) columns c.others in
     let list = within_limit 4096 n a.not_first in
-    record { some = list.some; list = list.most; size = ltb-false 1024 b c.not_first; room = ltb-false (length places) b d.not_first; pieces = have_places held (most_pieces n b) last d.others }
+    record {
+      some = list.some;
+      list = list.most;
+      size = ltb-false 1024 b c.not_first;
+      room = ltb-false (length places) b d.not_first;
+      pieces = have_places held (most_pieces n b) last d.others;
+      some_stake = have_stake (short_pieces held (most_pieces n b)) stakes empty d.others;
+    }

@@ -1,5 +1,5 @@
 -- What is promised of the capacity, of every partition and of every accepted call.
-use Rattle.std.specs.Prelude.{ℕ, ◌+◌, ◌*◌, ◌≤◌, ◌<◌, ◌≡◌, Option, Ok, List, length}
+use Rattle.std.specs.Prelude.{ℕ, ◌+◌, ◌*◌, ◌≤◌, ◌<◌, ◌≡◌, Option, Ok, List, length, sum}
 use Rattle.refusals.specs.Refusal.{first_of}
 use Rattle.partition.specs.Partition.{capacity, most_pieces, Parted, over_bins, parted, Held}
 use Rattle.partition.specs.Calls.{Lent, checks}
@@ -31,13 +31,14 @@ pub record HasPlaces (held : Held) (needed : ℕ) : Type 0 where
   pub validators : needed ≤ length held.1
   pub stakes : needed ≤ length held.2
 
--- the sizes of a call that its checks do not turn down
-pub record Admitted (n b : ℕ) (lent : Lent) : Type 0 where
-  pub some : 1 ≤ n
-  pub list : n ≤ 4096
+-- the sizes of a call that its checks do not turn down, and the sum of its stakes
+pub record Admitted (stakes : List ℕ) (b : ℕ) (lent : Lent) : Type 0 where
+  pub some : 1 ≤ length stakes
+  pub list : length stakes ≤ 4096
   pub size : b ≤ 1024
   pub room : b ≤ length lent.0
-  pub pieces : HasPlaces lent.1 (most_pieces n b)
+  pub pieces : HasPlaces lent.1 (most_pieces (length stakes) b)
+  pub some_stake : 0 < sum stakes
 
 abbrev pub PartitionAdmitted : Type 0
-PartitionAdmitted = (stakes : List ℕ) (b : ℕ) (lent : Lent) → first_of (checks stakes b lent) ≡ Ok tt → Admitted (length stakes) b lent
+PartitionAdmitted = (stakes : List ℕ) (b : ℕ) (lent : Lent) → first_of (checks stakes b lent) ≡ Ok tt → Admitted stakes b lent
