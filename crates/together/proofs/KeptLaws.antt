@@ -3,7 +3,7 @@ use Rattle.std.proofs.Common.{◌≡◌, ℕ, suc, ◌+◌, ◌*◌, ◌/◌, �
 use Rattle.std.specs.Prelude.{sum}
 use native.Mathlib.Nat.{div-add-mod', div-mul-le_self, mul-mod_left, le_of_mul-le-mul_right, le_of_mul-le-mul_left, lt_of_mul-lt-mul_right, zero-mul, zero-div, zero-mod}
 use lib.ListN.{get_or-map}
-use Rattle.laws.specs.Sums.{total}
+use Rattle.laws.specs.Sums.{total, sum_of}
 use Rattle.laws.proofs.Sums.{total_at}
 use Rattle.laws.proofs.Std.{total_is_sum}
 use Rattle.fixed_seats.specs.Fixed.{fixed, kept, fixed_of, kept_of, further}
@@ -13,7 +13,7 @@ use Rattle.partition.specs.Partition.{capacity}
 use Rattle.partition.proofs.PieceLaws.{capacity_fits}
 
 -- what the fixed seats leave of s × k
-abbrev rest : ℕ → ℕ → ℕ → ℕ
+abbrev pub rest : ℕ → ℕ → ℕ → ℕ
 rest k T s = s * k % T
 
 -- an element of a list that is computed by a function which leaves 0 as it is
@@ -24,10 +24,10 @@ module _ (k T : ℕ) where
   fixed-rest : (s : ℕ) → fixed k T s * T + rest k T s ≡ s * k
   fixed-rest s = div-add-mod' (s * k) T
 
-  sum_rest : (xs : List ℕ) → sum (map (fixed k T) xs) * T + sum (map (rest k T) xs) ≡ sum xs * k
+  sum_rest : (xs : List ℕ) → sum (map (fixed k T) xs) * T + sum_of (rest k T) xs ≡ sum xs * k
   sum_rest [] = omega arith
   sum_rest (x ∷ xs) =
-      omega (arith, sum_rest xs, fixed-rest x, sum-cons (rest k T x) (map (rest k T) xs), ap (◌* k) (sum-cons x xs), ap (◌* T) (sum-cons (fixed k T x) (map (fixed k T) xs)))
+      omega (arith, sum_rest xs, fixed-rest x, ap (◌* k) (sum-cons x xs), ap (◌* T) (sum-cons (fixed k T x) (map (fixed k T) xs)))
 
   module _ (seat : 0 < k) where
     kept_times : (s : ℕ) → kept k T s * k ≡ rest k T s + fixed k T s * T % k
@@ -63,14 +63,18 @@ module _ (k : ℕ) (list : List ℕ) (seat : 0 < k) (some : 0 < total list) wher
   pub fixed_le : sum (fixed_of k list) ≤ k
   fixed_le = rw (← T_is) (fixed_few k T list some T_is)
 
+  -- what they leave is k' times the total
+  pub rest_sum : sum_of (rest k (total list)) list ≡ further k list * total list
+  rest_sum =
+      let whole : sum (map (fixed k T) list) + further k list ≡ k = omega (arith, fixed_le, ap (λ t. sum (map (fixed k t) list)) T_is) in
+      omega (arith, sum_rest k T list, ap (◌* T) whole, ap (◌* k) T_is)
+
   -- where no further seat is drawn, nobody keeps anything
   pub nobody : further k list ≡ 0 → (i : ℕ) → kept k T (get_or list i 0) ≡ 0
   nobody z i =
-      let all : sum (fixed_of k list) ≡ k = omega (arith, fixed_le) in
-      let none : sum (map (rest k T) list) ≡ 0 =
-      omega (arith, sum_rest k T list, ap (◌* T) (rw (← T_is) at all), ap (◌* k) T_is) in
+      let none : sum_of (rest k T) list ≡ 0 = omega (arith, rest_sum, ap (◌* T) z) in
       kept_none k T seat (get_or list i 0)
-      (omega (arith, at_map (rest k T) (rw (zero-mul, zero-mod)) list i, total_is_sum (map (rest k T) list), total_at (map (rest k T) list) i))
+      (omega (arith, at_map (rest k T) (rw (zero-mul, zero-mod)) list i, total_at (map (rest k T) list) i))
 
   -- no stake keeps more than a bin holds, in the list or not
   pub kept_le : 0 < further k list → (s : ℕ) → kept k T s ≤ capacity (sum (kept_of k list)) (further k list)
