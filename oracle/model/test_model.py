@@ -886,7 +886,7 @@ class StoredLists(unittest.TestCase):
     def test_programs_have_room(self):
         for program in store.PROGRAMS:
             source = (store.CRATES / program / "src" / "main.rt").read_text()
-            room = int(re.search(r"(?:let mut text =|fn room\(\) -> \[u8; \d+\] {)\s+\[0u8; (\d+)\]", source)[1])
+            room = int(re.search(r"^const ROOM: usize = (\d+);$", source, re.MULTILINE)[1])
             self.assertLess(sum(map(len, self.lines(program))), room)
 
 

@@ -1,31 +1,35 @@
 -- Small texts, by computation.
-use Rattle.std.proofs.Common.{◌≡◌, [], ◌∷◌, refl}
-use Rattle.io.specs.Digits.{last_digits}
-use Rattle.cases.specs.Numbers.{some, none, number_at}
-use Rattle.cases.specs.Lists.{took, short, list_at}
+use Rattle.std.proofs.Common.{◌≡◌, ℕ, Option, Some, None, List, [], ◌∷◌, refl}
+use Rattle.std.specs.Prelude.{codes}
+use Rattle.cases.specs.Numbers.{next_number, list}
 
--- "m=12 "
-named : number_at (109 ∷ 61 ∷ 49 ∷ 50 ∷ 32 ∷ []) 0 ≡ some 12 4
+abbrev number_and_rest : Type 0
+number_and_rest = Option ℕ × List ℕ
+
+abbrev list_and_rest : Type 0
+list_and_rest = Option (List ℕ) × List ℕ
+
+named : ◌≡◌ {A = number_and_rest} (next_number (codes "m=12 ")) (Some 12, codes " ")
 named = refl
 
--- "m=": no digit
-nameless : number_at (109 ∷ 61 ∷ []) 0 ≡ none 2
+-- no digit
+nameless : ◌≡◌ {A = number_and_rest} (next_number (codes "m=")) (None, [])
 nameless = refl
 
 -- 2^64 − 1 is a number, and 2^64 is none from its last digit on
-largest : number_at (last_digits 10 20 18446744073709551615) 0 ≡ some 18446744073709551615 20
+largest : ◌≡◌ {A = number_and_rest} (next_number (codes "18446744073709551615")) (Some 18446744073709551615, [])
 largest = refl
 
-too_large : number_at (last_digits 10 20 18446744073709551616) 0 ≡ none 19
+too_large : ◌≡◌ {A = number_and_rest} (next_number (codes "18446744073709551616")) (None, codes "6")
 too_large = refl
 
--- "2 5 7" with room for two numbers, and for one
-two : list_at 2 (50 ∷ 32 ∷ 53 ∷ 32 ∷ 55 ∷ []) 0 ≡ took (5 ∷ 7 ∷ []) 5
+-- with room for two numbers, and for one
+two : ◌≡◌ {A = list_and_rest} (list 2 (codes "2 5 7")) (Some (5 ∷ 7 ∷ []), [])
 two = refl
 
-no_room : list_at 1 (50 ∷ 32 ∷ 53 ∷ 32 ∷ 55 ∷ []) 0 ≡ short
+no_room : ◌≡◌ {A = list_and_rest} (list 1 (codes "2 5 7")) (None, codes " 5 7")
 no_room = refl
 
--- "2 5": a number is missing
-one_missing : list_at 2 (50 ∷ 32 ∷ 53 ∷ []) 0 ≡ short
+-- a number is missing
+one_missing : ◌≡◌ {A = list_and_rest} (list 2 (codes "2 5")) (None, [])
 one_missing = refl

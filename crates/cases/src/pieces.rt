@@ -1,89 +1,58 @@
-// Cases of calls over bins, which read two lists of words and write seats and pieces.
-ghost use Rattle.std.specs.Prelude.{◌≤◌};
-ghost use Rattle.io.specs.Counts.{IsPrefixLen};
+ghost use Rattle.std.specs.Prelude.{◌≡◌, ◌≤◌, ◌↔◌, length, IfSome, IsTrue};
+ghost use Rattle.cases.specs.Numbers.{four_if};
+ghost use Rattle.cases.specs.Lent.{AreHeld, AreLent};
 
-use crate::{
-    Expected, begins, formed_if, prefill, read_expected_list, read_inputs, read_list, read_words,
-};
+use crate::buffer::{holds, lent};
+use crate::limits::SEATS;
+use crate::reader::Reader;
+use std::alloc::Global;
 
-// How many stakes and words of each list a case has, and what it expects.
-#[derive(Clone, Copy, Drop)]
-pub struct TwoLists {
-    pub stakes: usize,
-    pub first: usize,
-    pub second: usize,
-    pub expected: Expected,
+// The most pieces and seats that a case names.
+const PIECES: u64 = 5300;
+
+/// What a call over bins is lent, or is to leave at the front of it: seats, and the bins, validators and stakes of the pieces.
+#[derive(Debug, Drop)]
+pub struct Lists {
+    pub seats: Vec<u64>,
+    pub bins: Vec<u64>,
+    pub validators: Vec<u64>,
+    pub stakes: Vec<u64>,
 }
 
-// Whether what was lent is as expected, how many numbers of it were expected, and what is expected after them.
-#[derive(Clone, Copy, Drop)]
-pub struct Lent {
-    pub same: bool,
-    pub count: usize,
-    pub expected: Expected,
-}
-
-// Reads a case's numbers, stakes and two lists of words, and the numbers that it expects.
-pub fn read_two_lists(
-    text: &[u8],
-    at: usize,
-    numbers: &mut [u64],
-    stakes: &mut [u64],
-    first: &mut [u64],
-    second: &mut [u64],
-    wanted: &mut [u64],
-) -> TwoLists
-    ensures at_le_next { at ≤ result.expected.next }
-    ensures stakes_prefix { IsPrefixLen result.stakes stakes.new }
-    ensures first_prefix { IsPrefixLen result.first first.new }
-    ensures second_prefix { IsPrefixLen result.second second.new }
-{
-    let staked = read_inputs(text, at, numbers, stakes);
-    let listed = read_list(text, staked.next, first);
-    let given = read_words(text, listed.next, second, wanted);
-    TwoLists {
-        stakes: staked.count,
-        first: listed.count,
-        second: given.count,
-        expected: formed_if(given.expected, staked.found && listed.found),
+impl Lists {
+    /// Buffers of so many places.
+    pub fn lent(places: [u64; 4], alloc: Global) -> Option<Self>
+        ensures { IfSome result (λ lists. AreLent lists places) }
+    {
+        Some(Lists {
+            seats: lent(places[0], SEATS, alloc)?,
+            bins: lent(places[1], PIECES, alloc)?,
+            validators: lent(places[2], PIECES, alloc)?,
+            stakes: lent(places[3], PIECES, alloc)?,
+        })
     }
-}
 
-// The whole of a buffer that was filled by `prefill` before it was lent, against a list of an accepted call. Where a refusal is
-// expected, it is to be as it was.
-fn check_lent(text: &[u8], e: Expected, buffer: &[u64]) -> Lent
-    ensures { e.next ≤ result.expected.next }
-{
-    let mut wanted = [0u64; 5300];
-    prefill(&mut wanted);
-    let answer = read_expected_list(text, e, &mut wanted);
-    let expected = answer.expected;
-    Lent {
-        same: begins(&wanted, buffer),
-        count: answer.count,
-        expected,
+    /// The lists of a call that is to be accepted; of another, empty ones.
+    pub fn read_if(accepted: bool, text: &mut Reader, alloc: Global) -> Option<Self>
+        ensures value { IfSome result (λ lists.
+            (Some (lists.seats.items, lists.bins.items, lists.validators.items, lists.stakes.items), text.new) ≡ four_if accepted 5300 text.old) }
+        ensures rest { length text.new ≤ length text.old }
+    {
+        Some(Lists {
+            seats: text.list_if(accepted, PIECES, alloc)?,
+            bins: text.list_if(accepted, PIECES, alloc)?,
+            validators: text.list_if(accepted, PIECES, alloc)?,
+            stakes: text.list_if(accepted, PIECES, alloc)?,
+        })
     }
-}
 
-// The whole of the seats and of the three buffers for pieces, against those of an accepted call. Counts the pieces.
-pub fn check_pieces(
-    text: &[u8],
-    e: Expected,
-    seats: &[u64],
-    bins: &[u64],
-    validators: &[u64],
-    stakes: &[u64],
-) -> Lent
-    ensures { e.next ≤ result.expected.next }
-{
-    let seated = check_lent(text, e, seats);
-    let binned = check_lent(text, seated.expected, bins);
-    let named = check_lent(text, binned.expected, validators);
-    let staked = check_lent(text, named.expected, stakes);
-    let expected = staked.expected;
-    Lent {
-        same: seated.same && binned.same && named.same && staked.same,
-        count: staked.count,
-        expected,
+    /// Whether the whole of each lent buffer is as it is to be.
+    pub fn hold(&self, fronts: &Lists) -> bool
+        ensures { IsTrue result ↔ AreHeld self.now fronts.now }
+    {
+        holds(&self.seats, &fronts.seats)
+            && holds(&self.bins, &fronts.bins)
+            && holds(&self.validators, &fronts.validators)
+            && holds(&self.stakes, &fronts.stakes)
     }
 }

@@ -1,7 +1,13 @@
-// Draws from the words that are still to come: the stand-ins for rand. Nothing here knows where the words come from.
+//! Draws from the words of any source.
 #![tactic(auto)]
 
-pub mod below;
-pub mod fraction;
-pub mod shuffle;
-pub mod weighted;
+mod below;
+mod fraction;
+mod shuffle;
+pub mod theorems;
+mod weighted;
+
+pub use below::draw_below;
+pub use fraction::draw_fraction;
+pub use shuffle::shuffle_list;
+pub use weighted::{Place, Weights, draw_weighted, walked_place};

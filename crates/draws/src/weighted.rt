@@ -1,113 +1,171 @@
-// Weighted draw.
-ghost use Rattle.std.specs.Prelude.{◌≡◌, ◌^◌, ◌<◌, ◌≤◌, ◌++◌, length, drop};
-ghost use Rattle.laws.specs.Sums.{total, running_sums};
-ghost use Rattle.refusals.specs.Refusals.{lowest, sum_checks};
-ghost use Rattle.refusals.specs.Answers.{summed_by};
-ghost use Rattle.words.specs.Outcome.{left_after};
-ghost use Rattle.words.specs.Stream.{stream};
-ghost use Rattle.draws.specs.Weighted.{place_of, weighted};
-ghost use Rattle.draws.specs.Answers.{SumsHeld, weighted_says};
+ghost use Rattle.std.specs.Prelude.{◌≡◌, ◌<◌, ◌≤◌, Ok, IfSome, length, take, sum};
+ghost use Rattle.refusals.specs.Refusal.{first_of, sum_checks, unless};
+ghost use Rattle.draws.specs.Weighted.{place_of, weighted, Placed};
 
-use crate::below;
-use crate::below::Below;
-use refusals::Summed;
-use words::Words;
+use crate::below::draw_below;
+use refusals::Refusal;
+use sorted::first_above;
+use std::marker::Model;
+use words::WordSource;
 
-// A place among weights, and the value that was drawn less the running sum before it.
-#[derive(Clone, Copy, Drop)]
+/// A place among weights, as a drawn value chooses it.
+#[derive(Clone, Copy, Debug, PartialEq, Eq)]
 pub struct Place {
+    /// The place: an id below the number of weights.
     pub at: usize,
+    /// The value less the running sum before the place: below the weight there.
     pub remainder: u64,
 }
 
-// What a weighted draw gives.
-#[derive(Clone, Copy, Drop)]
-pub enum Weighted {
-    At(Place),
-    NoWord,
+/// Weights that do not sum to 0, held by their running sums and their total.
+#[derive(Debug, Drop)]
+pub struct Weights<'a> {
+    sums: &'a [u64],
+    total: u64,
 }
 
-// Writes the running sums of the weights to the front of sums.
-pub fn running_sums(weights: &[u64], sums: &mut [u64])
-    requires sums_room { length weights.now ≤ length sums.old }
-    requires weights_bound { total weights.now < 2 ^ 64 }
-    ensures { sums.new ≡ running_sums weights.now ++ drop (length weights.now) sums.old }
-{
-    let mut sum: u64 = 0;
-    let mut i = 0;
-    while i < weights.len() {
-        sum += weights[i];
-        sums[i] = sum;
-        i += 1;
+impl<'a> Model for Weights<'a> {
+    ghost use Rattle.std.specs.Prelude.{ℕ, List};
+    ghost use Rattle.draws.specs.Sums.{differences, AreSums};
+
+    ghost Value = { List ℕ };
+
+    ghost view = { λ w. differences 0 w.sums.now };
+
+    ghost invariant = { λ w. AreSums w.sums.now w.total };
+}
+
+impl<'a> Weights<'a> {
+    /// Sums up the weights into the front of `sums`, a place for each. Refused with `SumPast` where they sum past 64 bits, and with
+    /// `TotalZero` where to 0.
+    // What `sums` then holds is told by the type: its view and its invariant, and `weights_hold_running_sums`.
+    pub fn new(weights: &[u64], sums: &'a mut [u64]) -> Result<Self, Refusal>
+        requires { length weights.now ≤ length sums.old }
+        ensures { result ≡ unless (first_of (sum_checks weights.now)) (Ok weights.now) }
+    {
+        let sums = &mut sums[..weights.len()];
+        let mut sum: u64 = 0;
+        for (i, weight) in weights.iter().enumerate() {
+            sum = sum.checked_add(*weight).ok_or(Refusal::SumPast)?;
+            sums[i] = sum;
+        }
+        if sum == 0 {
+            return Err(Refusal::TotalZero);
+        }
+        Ok(Weights { sums, total: sum })
+    }
+
+    /// The sum of the weights.
+    #[tactic(auto, using(crate::proofs::SumsLemmas::total_shown))]
+    pub fn total(&self) -> u64
+        ensures value { result ≡ sum self.now }
+        ensures some { 0 < result }
+    {
+        self.total
+    }
+
+    /// The place that a value chooses.
+    #[inline(always)]
+    pub fn place_of(&self, v: u64) -> Place
+        requires { v < sum self.now }
+        ensures place { result ≡ place_of self.now v }
+        ensures placed { Placed self.now result }
+    {
+        let at = first_above(self.sums, v);
+        Place {
+            at,
+            remainder: v - self.sum_before(at),
+        }
+    }
+
+    // The sum of the weights before a place.
+    #[inline(always)]
+    fn sum_before(&self, at: usize) -> u64
+        requires { at < length self.now }
+        ensures { result ≡ sum (take at self.now) }
+    {
+        if at == 0 { 0 } else { self.sums[at - 1] }
     }
 }
 
-// The same for weights of any sum, in one pass: the sum, or 8 or 9. What sums then holds is only said where there is a sum. Carries are counted
-// as in `Stake::sum`.
-pub fn checked_sums(weights: &[u64], sums: &mut [u64]) -> Summed
-    requires { length weights.now ≤ length sums.old }
-    ensures value { result ≡ summed_by (lowest (sum_checks weights.now)) (total weights.now) }
-    ensures sums_held { SumsHeld result weights.now sums.old sums.new }
-{
-    let mut sum: u64 = 0;
-    let mut carries: u64 = 0;
-    let mut i = 0;
-    while i < weights.len() {
-        let weight = weights[i];
-        sum = std::num::wrapping_add_u64(sum, weight);
-        carries += (sum < weight) as u64;
-        sums[i] = sum;
-        i += 1;
-    }
-    if carries != 0 {
-        return Summed::Refused(refusals::SUM_PAST);
-    }
-    if sum == 0 {
-        return Summed::Refused(refusals::TOTAL_ZERO);
-    }
-    Summed::Sum(sum)
-}
-
-// The place that the value v chooses among weights, whose running sums are given.
-pub fn place_of(weights: &[u64], sums: &[u64], v: u64) -> Place
-    requires sums_value { sums.now ≡ running_sums weights.now }
-    requires v_bound { v < total weights.now }
-    ensures { result ≡ place_of weights.now v }
-{
-    let at = sorted::first_above(sums, v);
-    Place {
-        at,
-        remainder: v - (sums[at] - weights[at]),
-    }
-}
-
-// The same by a walk over the weights, for one draw alone: it needs no running sums.
+/// The place that a value chooses, by a walk over the weights: one draw alone needs no running sums.
+// The walk ends by its own condition, at a weight that is more than what remains: there is no range to go over.
+#[tactic(auto, using(crate::proofs::WeightedLemmas::walked_to))]
 pub fn walked_place(weights: &[u64], v: u64) -> Place
-    requires { v < total weights.now }
-    ensures { result ≡ place_of weights.now v }
+    requires { v < sum weights.now }
+    ensures place { result ≡ place_of weights.now v }
+    ensures placed { Placed weights.now result }
 {
-    let mut rest = v;
-    let mut at = 0;
-    while weights[at] <= rest {
-        rest -= weights[at];
-        at += 1;
+    let mut place = Place {
+        at: 0,
+        remainder: v,
+    };
+    while weights[place.at] <= place.remainder {
+        place.remainder -= weights[place.at];
+        place.at += 1;
     }
-    Place {
-        at,
-        remainder: rest,
-    }
+    place
 }
 
-// A place among weights, whose running sums are given: each for as many values as its weight counts.
-pub fn draw_weighted(list: &[u64], words: &mut Words, weights: &[u64], sums: &[u64]) -> Weighted
-    requires sums_value { sums.now ≡ running_sums weights.now }
-    requires total_nonzero { 0 < total weights.now }
-    ensures outcome { weighted_says result (stream list.now words.new) ≡ weighted weights.now (stream list.now words.old) }
-    ensures words_after { stream list.now words.new ≡ left_after (weighted weights.now (stream list.now words.old)) }
+/// A place among the weights, each for as many values as its weight counts, by a draw below their sum; `None` where the words run out.
+#[inline(always)]
+pub fn draw_weighted<W: WordSource>(words: &mut W, weights: &Weights) -> Option<Place>
+    ensures drawn { (result, W.words words.new) ≡ weighted weights.now (W.words words.old) }
+    ensures placed { IfSome result (Placed weights.now) }
 {
-    let sum = sums[sums.len() - 1];
-    match below::draw_below(list, words, sum) {
-        Below::Value(v) => Weighted::At(place_of(weights, sums, v)),
-        Below::NoWord => Weighted::NoWord,
+    let v = draw_below(words, weights.total())?;
+    Some(weights.place_of(v))
+}
+
+#[cfg(test)]
+mod tests {
+    use super::*;
+    use words::ListWords;
+
+    #[test]
+    fn values_choose_places_with_weight(rt: HostRuntime) {
+        let mut sums = [0; 4];
+        let weights = Weights::new(&[0, 3, 0, 2], &mut sums);
+        assert!(rt; weights.is_ok());
+        if let Ok(weights) = weights {
+            assert_eq!(rt; weights.total(), 5);
+            assert_eq!(rt;
+                weights.place_of(2),
+                Place {
+                    at: 1,
+                    remainder: 2
+                }
+            );
+            assert_eq!(rt;
+                weights.place_of(3),
+                Place {
+                    at: 3,
+                    remainder: 0
+                }
+            );
+            let mut words = ListWords::new(&[9, 7], 0);
+            assert_eq!(rt;
+                draw_weighted(&mut words, &weights),
+                Some(Place {
+                    at: 3,
+                    remainder: 1
+                })
+            );
+            assert_eq!(rt;
+                draw_weighted(&mut words, &weights),
+                Some(Place {
+                    at: 1,
+                    remainder: 2
+                })
+            );
+            assert_eq!(rt; draw_weighted(&mut words, &weights), None);
+        }
+        assert_eq!(rt;
+            walked_place(&[0, 3, 0, 2], 4),
+            Place {
+                at: 3,
+                remainder: 1
+            }
+        );
     }
 }

@@ -1,33 +1,70 @@
--- What a call gives: the lowest refusal from its input, else the committee.
-use Rattle.std.specs.Prelude.{ℕ, ◌+◌, List, [], ◌∷◌, ◌++◌, length}
-use Rattle.laws.specs.Sums.{total}
-use Rattle.refusals.specs.Refusals.{Check, lowest, list_length, committee_size, short_buffer, sum_checks, empty_bin}
-use Rattle.words.specs.Outcome.{Outcome, unless}
-use Rattle.partition.specs.Seats.{capacity}
-use Rattle.partition.specs.Calls.{Places, short_pieces}
-use Rattle.fait_accompli.specs.declared.sampler.Fallback.{Fallback}
-use Rattle.fait_accompli.specs.declared.sampler.Fallback.TheVariants.{Bins, Draws}
+-- What a call of the sampler gives: the first refusal from its input, else the committee.
+use Rattle.std.specs.Prelude.{ℕ, ◌+◌, Result, Ok, Err, List, [], ◌∷◌, ◌++◌, length, sum}
+use Rattle.refusals.specs.declared.refusal.Refusal.{Refusal}
+use Rattle.refusals.specs.Refusal.{Check, first_of, list_length, size_of_some, short_buffer, sum_checks, empty_bin}
+use Rattle.words.specs.Draw.{words_read}
+use Rattle.partition.specs.Partition.{capacity, short_pieces, seat_ids, Given, turned, or_no_word, Held, columns_of}
+use Rattle.partition.specs.Calls.{Lent, written}
 use Rattle.fixed_seats.specs.Fixed.{kept_of, further}
-use Rattle.fait_accompli.specs.Seats.{size_of, Committee, committee}
+use Rattle.fait_accompli.specs.declared.quorum.Fallback.{Fallback}
+use Rattle.fait_accompli.specs.declared.quorum.Fallback.TheVariants.{Bins, Draws}
+use Rattle.fait_accompli.specs.declared.quorum.Committee.{Committee}
+use Rattle.fait_accompli.specs.declared.quorum.FaitAccompli1Sampler.{FaitAccompli1Sampler}
+use Rattle.fait_accompli.specs.Seats.{size_of, fallback, committee, seats_of}
 
 -- 7 for the pieces: "n + k for FA1 over bins"
-abbrev pub piece_checks : Fallback → ℕ → Places → List Check
-piece_checks (Bins k) n p = short_pieces p (n + k) ∷ []
-piece_checks (Draws k) n p = []
+abbrev pub piece_checks : Fallback → ℕ → Held → List Check
+piece_checks (Bins k) n held = short_pieces held (n + k)
+piece_checks (Draws k) n held = []
 
 -- 1, 2 and 7: by the sizes alone
-abbrev pub size_checks : Fallback → ℕ → Places → List Check
-size_checks f n p = list_length n ∷ committee_size (size_of f) ∷ short_buffer p.seats (size_of f) ∷ piece_checks f n p
+abbrev pub size_checks : Fallback → List ℕ → Lent → List Check
+size_checks f list (seats, held) =
+    list_length (length list) ∷ size_of_some (size_of f) ∷ short_buffer (length seats) (size_of f) ∷ piece_checks f (length list) held
 
--- 11: "k' in FA1"
-abbrev pub bin_checks : Fallback → List ℕ → List Check
-bin_checks (Bins k) list = empty_bin (capacity (total (kept_of k list)) (further k list)) (total (kept_of k list)) (further k list) ∷ []
-bin_checks (Draws k) list = []
+-- 11, for b seats over any weights
+abbrev pub bin_checks : Fallback → List ℕ → ℕ → List Check
+bin_checks (Bins k) weights b = empty_bin (capacity (sum weights) b) (sum weights) b ∷ []
+bin_checks (Draws k) weights b = []
 
--- `FaitAccompli1Sampler::sample_quorum`: 1, 2, 7, 8, 9, and 11 over bins
-abbrev pub quorum_checks : Fallback → List ℕ → Places → List Check
-quorum_checks f list p = size_checks f (length list) p ++ (sum_checks list ++ bin_checks f list)
+-- 1, 2, 7, 8, 9, and 11 over bins: "k' in FA1"
+abbrev pub quorum_checks : Fallback → List ℕ → Lent → List Check
+quorum_checks f list lent = size_checks f list lent ++ (sum_checks list ++ bin_checks f (kept_of (size_of f) list) (further (size_of f) list))
 
 -- then the committee, and 12
-abbrev pub quorum : Fallback → List ℕ → Places → List ℕ → List ℕ → Outcome Committee
-quorum f list p first second = unless (lowest (quorum_checks f list p)) (committee f list first second)
+abbrev pub quorum : Fallback → List ℕ → Lent → List ℕ → List ℕ → Given
+quorum f list lent first second = turned (first_of (quorum_checks f list lent)) first second (or_no_word (committee f list first second))
+
+-- the answer, with k' and the words read of each source, and what all that was lent then holds
+abbrev pub told : Fallback → List ℕ → Lent → List ℕ → List ℕ → Given → Result Committee Refusal × Lent
+told f list lent first second (Err refusal, left, rest) = (Err refusal, lent)
+told f list (seats, held) first second (Ok p, left, rest) = (
+  Ok (record {
+    further = further (size_of f) list;
+    pieces = length p.pieces;
+    first_words_read = words_read first left;
+    second_words_read = words_read second rest;
+  }),
+  (written (seats_of f list p) seats, columns_of p.pieces held),
+)
+
+abbrev pub sample_quorum : FaitAccompli1Sampler → List ℕ → Lent → List ℕ → List ℕ → Result Committee Refusal × Lent
+sample_quorum sampler list lent first second =
+    told sampler.fallback list lent first second (quorum sampler.fallback list lent first second)
+
+-- b seats over any weights: 11 over bins, else what the fallback gives
+abbrev pub others : Fallback → List ℕ → ℕ → List ℕ → List ℕ → Given
+others f weights b first second = turned (first_of (bin_checks f weights b)) first second (or_no_word (fallback f weights b first second))
+
+-- the same over what a list keeps
+abbrev pub committee_over : Fallback → List ℕ → List ℕ → List ℕ → Given
+committee_over f list first second = others f (kept_of (size_of f) list) (further (size_of f) list) first second
+
+-- the number of pieces with the seats, or the refusal; and what the columns hold
+abbrev pub with_seats : List ℕ → Result ℕ Refusal → Result (ℕ × List ℕ) Refusal
+with_seats seats (Err refusal) = Err refusal
+with_seats seats (Ok n) = Ok (n, seats)
+
+abbrev pub placed_or : Held → Given → Result (ℕ × List ℕ) Refusal × Held × List ℕ × List ℕ
+placed_or held (Err refusal, left, rest) = (Err refusal, held, left, rest)
+placed_or held (Ok p, left, rest) = (Ok (length p.pieces, seat_ids p), columns_of p.pieces held, left, rest)

@@ -1,134 +1,98 @@
-// The seats that are not fixed: they stand in the committee after the fixed ones.
-ghost use Rattle.std.specs.Prelude.{◌-◌, ◌≤◌, ◌<◌, ◌^◌, ◌≡◌, [], length, take, drop};
-ghost use Rattle.laws.specs.Sums.{total};
-ghost use Rattle.words.specs.Outcome.{buffer_after};
-ghost use Rattle.partition.specs.Seats.{parted, piece_bins_of, piece_validators_of, piece_stakes_of};
-ghost use Rattle.partition.specs.Bins.{Partable};
-ghost use Rattle.partition.specs.Answers.{partition_answer, Holds};
-ghost use Rattle.fait_accompli.specs.Fallbacks.{plain, fallback_over, seated_after, Drawable};
+ghost use Rattle.std.specs.Prelude.{◌≡◌, ◌+◌, ◌≤◌, ◌<◌, ◌^◌, length, sum};
+ghost use Rattle.std.specs.Option.{option_map};
+ghost use Rattle.stake_weighted.specs.Seats.{iid_seats};
+ghost use Rattle.fill.specs.Columns.{HaveRoom, SameLoans};
+ghost use Rattle.partition.specs.Partition.{held_of};
+ghost use Rattle.fait_accompli.specs.declared.quorum.Fallback.TheVariants.{Bins};
+ghost use Rattle.fait_accompli.specs.Seats.{Roomy};
+ghost use Rattle.fait_accompli.specs.Calls.{others, with_seats, placed_or};
 
-use crate::sampler::Fallback;
-use draws::weighted;
-use partition::{Partition, PartitionAnswer, seats};
-use stake_weighted::Seats;
+use crate::quorum::Fallback;
+use draws::Weights;
+use fill::Columns;
+use partition::{check_bins, draw_bins};
+use refusals::Refusal;
+use stake_weighted::draw_seats;
+use words::WordSource;
 
-// One from each bin.
-fn draw_bins(
-    kept: &[u64],
-    sum: u64,
-    fixed: usize,
-    first: &[u64],
-    first_cursor: usize,
-    second: &[u64],
-    second_cursor: usize,
-    order: &mut [u64],
-    committee: &mut [u64],
-    piece_bins: &mut [u64],
-    piece_validators: &mut [u64],
-    piece_stakes: &mut [u64],
-) -> PartitionAnswer
-    requires fixed_in_bounds { fixed ≤ length committee.old }
-    requires partable { Partable kept.now sum (length committee.old - fixed) (length piece_bins.old) (length piece_validators.old) (length piece_stakes.old) }
-    requires order_len { length order.old ≡ length kept.now }
-    ensures value { result ≡ partition_answer (drop first_cursor first.now) (drop second_cursor second.now) (parted kept.now sum (length committee.old - fixed) (drop first_cursor first.now) (drop second_cursor second.now)) }
-    ensures holds { Holds (seated_after (take fixed committee.old) (parted kept.now sum (length committee.old - fixed) (drop first_cursor first.now) (drop second_cursor second.now))) committee.new }
-    ensures piece_bins_after { piece_bins.new ≡ buffer_after (parted kept.now sum (length committee.old - fixed) (drop first_cursor first.now) (drop second_cursor second.now)) piece_bins_of piece_bins.old }
-    ensures piece_validators_after { piece_validators.new ≡ buffer_after (parted kept.now sum (length committee.old - fixed) (drop first_cursor first.now) (drop second_cursor second.now)) piece_validators_of piece_validators.old }
-    ensures piece_stakes_after { piece_stakes.new ≡ buffer_after (parted kept.now sum (length committee.old - fixed) (drop first_cursor first.now) (drop second_cursor second.now)) piece_stakes_of piece_stakes.old }
-{
-    seats::draw_parted(
-        kept,
-        sum,
-        first,
-        first_cursor,
-        second,
-        second_cursor,
-        order,
-        &mut committee[fixed..],
-        piece_bins,
-        piece_validators,
-        piece_stakes,
-    )
+/// A list of stakes and its sum.
+#[derive(Clone, Copy, Debug)]
+pub struct Summed<'a> {
+    pub stakes: &'a [u64],
+    pub sum: u64,
 }
 
-// By plain draws from the first list. The running sums are written to scratch space.
-fn draw_plain(
-    kept: &[u64],
-    fixed: usize,
-    first: &[u64],
-    first_cursor: usize,
-    sums: &mut [u64],
-    committee: &mut [u64],
-) -> PartitionAnswer
-    requires seat_left { fixed < length committee.old }
-    requires total_nonzero { 0 < total kept.now }
-    requires kept_bound { total kept.now < 2 ^ 64 }
-    requires sums_len { length sums.old ≡ length kept.now }
-    ensures value { result ≡ partition_answer (drop first_cursor first.now) [] (plain kept.now (length committee.old - fixed) (drop first_cursor first.now) []) }
-    ensures holds { Holds (seated_after (take fixed committee.old) (plain kept.now (length committee.old - fixed) (drop first_cursor first.now) [])) committee.new }
+// One seat from each of as many bins as there are seats. Gives the number of pieces.
+fn draw_over_bins<A: WordSource, B: WordSource>(
+    kept: Summed,
+    first: &mut A,
+    second: &mut B,
+    order: &mut [u64],
+    seats: &mut [u64],
+    columns: &mut Columns,
+) -> Result<usize, Refusal>
+    requires sum { kept.sum ≡ sum kept.stakes.now }
+    requires some { 0 < length seats.old → 0 < kept.sum }
+    requires order { length order.old ≡ length kept.stakes.now }
+    requires room { HaveRoom columns.old (length kept.stakes.now + length seats.old) }
+    ensures drawn { (with_seats seats.new result, held_of columns.new, A.words first.new, B.words second.new)
+        ≡ placed_or (held_of columns.old)
+        (others (Bins (length seats.old)) kept.entry.stakes.now (length seats.old) (A.words first.old) (B.words second.old)) }
+    ensures same { SameLoans columns.old columns.new }
 {
-    weighted::running_sums(kept, sums);
-    let mut words = words::listed(first, first_cursor);
-    let left = words::words_left(first, &words);
-    match stake_weighted::draw_seats(first, &mut words, kept, sums, &mut committee[fixed..]) {
-        Seats::Drawn => PartitionAnswer::Accepted(Partition {
-            pieces: 0,
-            first_words_read: left - words::words_left(first, &words),
-            second_words_read: 0,
-        }),
-        Seats::NoWord => PartitionAnswer::Refused(refusals::NO_WORD_LEFT),
+    if seats.is_empty() {
+        return Ok(0);
     }
+    let bins = check_bins(kept.sum, seats.len())?;
+    draw_bins(kept.stakes, bins, first, second, order, seats, columns).ok_or(Refusal::NoWordLeft)
 }
 
-// By the fallback. Where all seats are fixed, no word is read.
-pub fn draw_further(
-    fallback: Fallback,
+// Each seat by itself.
+fn draw_plainly<W: WordSource>(
+    words: &mut W,
     kept: &[u64],
-    sum: u64,
-    fixed: usize,
-    first: &[u64],
-    first_cursor: usize,
-    second: &[u64],
-    second_cursor: usize,
-    order: &mut [u64],
-    committee: &mut [u64],
-    piece_bins: &mut [u64],
-    piece_validators: &mut [u64],
-    piece_stakes: &mut [u64],
-) -> PartitionAnswer
-    requires fixed_in_bounds { fixed ≤ length committee.old }
-    requires drawable { Drawable fallback kept.now sum (length committee.old - fixed) (length piece_bins.old) (length piece_validators.old) (length piece_stakes.old) }
-    requires order_len { length order.old ≡ length kept.now }
-    ensures value { result ≡ partition_answer (drop first_cursor first.now) (drop second_cursor second.now) (fallback_over fallback kept.now sum (length committee.old - fixed) (drop first_cursor first.now) (drop second_cursor second.now)) }
-    ensures holds { Holds (seated_after (take fixed committee.old) (fallback_over fallback kept.now sum (length committee.old - fixed) (drop first_cursor first.now) (drop second_cursor second.now))) committee.new }
-    ensures piece_bins_after { piece_bins.new ≡ buffer_after (fallback_over fallback kept.now sum (length committee.old - fixed) (drop first_cursor first.now) (drop second_cursor second.now)) piece_bins_of piece_bins.old }
-    ensures piece_validators_after { piece_validators.new ≡ buffer_after (fallback_over fallback kept.now sum (length committee.old - fixed) (drop first_cursor first.now) (drop second_cursor second.now)) piece_validators_of piece_validators.old }
-    ensures piece_stakes_after { piece_stakes.new ≡ buffer_after (fallback_over fallback kept.now sum (length committee.old - fixed) (drop first_cursor first.now) (drop second_cursor second.now)) piece_stakes_of piece_stakes.old }
+    sums: &mut [u64],
+    seats: &mut [u64],
+) -> Option<()>
+    requires sums { length kept.now ≡ length sums.old }
+    requires fits { sum kept.now < 2 ^ 64 }
+    requires some { 0 < length seats.old → 0 < sum kept.now }
+    ensures { (option_map (λ _. seats.new) result, W.words words.new)
+        ≡ iid_seats (length seats.old) kept.now (W.words words.old) }
+{
+    if seats.is_empty() {
+        return Some(());
+    }
+    // Never turned down here, since the sum is over 0 and fits 64 bits.
+    let weights = Weights::new(kept, sums).ok()?;
+    draw_seats(words, weights, seats)
+}
+
+/// The seats that are not fixed, over the stake that is kept, by the fallback. Gives the number of pieces.
+pub fn draw_further<A: WordSource, B: WordSource>(
+    fallback: Fallback,
+    kept: Summed,
+    first: &mut A,
+    second: &mut B,
+    space: &mut [u64],
+    seats: &mut [u64],
+    columns: &mut Columns,
+) -> Result<usize, Refusal>
+    requires sum { kept.sum ≡ sum kept.stakes.now }
+    requires fits { kept.sum < 2 ^ 64 }
+    requires some { 0 < length seats.old → 0 < kept.sum }
+    requires space { length space.old ≡ length kept.stakes.now }
+    requires room { Roomy fallback columns.old (length kept.stakes.now) (length seats.old) }
+    ensures drawn { (with_seats seats.new result, held_of columns.new, A.words first.new, B.words second.new)
+        ≡ placed_or (held_of columns.old)
+        (others fallback kept.entry.stakes.now (length seats.old) (A.words first.old) (B.words second.old)) }
+    ensures same { SameLoans columns.old columns.new }
 {
     match fallback {
-        Fallback::Bins(_) => draw_bins(
-            kept,
-            sum,
-            fixed,
-            first,
-            first_cursor,
-            second,
-            second_cursor,
-            order,
-            committee,
-            piece_bins,
-            piece_validators,
-            piece_stakes,
-        ),
+        Fallback::Bins(_) => draw_over_bins(kept, first, second, space, seats, columns),
         Fallback::Draws(_) => {
-            if committee.len() == fixed {
-                return PartitionAnswer::Accepted(Partition {
-                    pieces: 0,
-                    first_words_read: 0,
-                    second_words_read: 0,
-                });
-            }
-            draw_plain(kept, fixed, first, first_cursor, order, committee)
+            draw_plainly(first, kept.stakes, space, seats).ok_or(Refusal::NoWordLeft)?;
+            Ok(0)
         }
     }
 }

@@ -1,209 +1,238 @@
-// A committee by a call that is not turned down by its sizes and sum.
-ghost use Rattle.std.specs.Prelude.{◌≤◌, ◌≡◌, length, drop};
-ghost use Rattle.words.specs.Outcome.{buffer_after};
-ghost use Rattle.fait_accompli.specs.Seats.{size_of, seats_of};
-ghost use Rattle.fait_accompli.specs.Answers.{committee_answer, piece_bins_of, piece_validators_of, piece_stakes_of};
-ghost use Rattle.fait_accompli.specs.Fallbacks.{Admitted, committee_over};
+ghost use Rattle.std.specs.Prelude.{◌≡◌, ◌+◌, ◌≤◌, ◌<◌, length, sum};
+ghost use Rattle.refusals.specs.Refusal.{first_of};
+ghost use Rattle.fill.specs.Columns.{HaveRoom, SameLoans};
+ghost use Rattle.partition.specs.Partition.{held_of};
+ghost use Rattle.fait_accompli.specs.declared.quorum.Fallback.TheVariants.{Bins, Draws};
+ghost use Rattle.fait_accompli.specs.Seats.{size_of, Roomy};
+ghost use Rattle.fait_accompli.specs.Calls.{piece_checks, committee_over, told, sample_quorum};
 
-use crate::answers::{Committee, CommitteeAnswer};
-use crate::further;
-use crate::sampler::Fallback;
-use partition::PartitionAnswer;
+use crate::further::{Summed, draw_further};
+use fill::Columns;
+use fixed_seats::{Division, seat_fixed};
+use partition::check_columns;
+use refusals::{Refusal, check_list_length, check_room, check_size_of_some, check_sum};
+use words::WordSource;
 
-// A committee of as many seats as it has places: the fixed seats, then those of the fallback. It is stored once all seats are drawn.
-// The numbers of fixed seats stand in the space for the order until the ids are written.
-fn fill_committee(
-    fallback: Fallback,
-    stakes: &[u64],
-    sum: u64,
-    first: &[u64],
-    first_cursor: usize,
-    second: &[u64],
-    second_cursor: usize,
-    kept: &mut [u64],
-    order: &mut [u64],
-    committee: &mut [u64],
-    seats: &mut [u64],
-    piece_bins: &mut [u64],
-    piece_validators: &mut [u64],
-    piece_stakes: &mut [u64],
-) -> CommitteeAnswer
-    requires admitted { Admitted fallback stakes.now sum (length seats.old) (length piece_bins.old) (length piece_validators.old) (length piece_stakes.old) }
-    requires kept_len { length kept.old ≡ length stakes.now }
-    requires order_len { length order.old ≡ length stakes.now }
-    requires committee_len { length committee.old ≡ size_of fallback }
-    ensures value { result ≡ committee_answer (drop first_cursor first.now) (drop second_cursor second.now) (committee_over fallback stakes.now (drop first_cursor first.now) (drop second_cursor second.now)) }
-    ensures seats_after { seats.new ≡ buffer_after (committee_over fallback stakes.now (drop first_cursor first.now) (drop second_cursor second.now)) seats_of seats.old }
-    ensures piece_bins_after { piece_bins.new ≡ buffer_after (committee_over fallback stakes.now (drop first_cursor first.now) (drop second_cursor second.now)) piece_bins_of piece_bins.old }
-    ensures piece_validators_after { piece_validators.new ≡ buffer_after (committee_over fallback stakes.now (drop first_cursor first.now) (drop second_cursor second.now)) piece_validators_of piece_validators.old }
-    ensures piece_stakes_after { piece_stakes.new ≡ buffer_after (committee_over fallback stakes.now (drop first_cursor first.now) (drop second_cursor second.now)) piece_stakes_of piece_stakes.old }
-{
-    let k = committee.len();
-    let held = fixed_seats::keep(stakes, sum, k as u64, order, kept);
-    let fixed = held.seats as usize;
-    fixed_seats::repeat_ids(order, committee);
-    match further::draw_further(
-        fallback,
-        kept,
-        held.stake,
-        fixed,
-        first,
-        first_cursor,
-        second,
-        second_cursor,
-        order,
-        committee,
-        piece_bins,
-        piece_validators,
-        piece_stakes,
-    ) {
-        PartitionAnswer::Accepted(drawn) => {
-            buffers::store(committee, seats);
-            CommitteeAnswer::Accepted(Committee {
-                further: k - fixed,
-                pieces: drawn.pieces,
-                first_words_read: drawn.first_words_read,
-                second_words_read: drawn.second_words_read,
-            })
+/// A committee, whose seats and pieces stand in what was lent: how many seats are not fixed, how many pieces there are, and how many words
+/// of each source were read.
+#[derive(Clone, Copy, Debug, PartialEq, Eq)]
+pub struct Committee {
+    pub further: usize,
+    pub pieces: usize,
+    pub first_words_read: usize,
+    pub second_words_read: usize,
+}
+
+/// Where the seats that are not fixed come from, with the size of the committee: bins, one seat from each, or plain draws. How many of the
+/// seats they are is not said here, since it follows from the list.
+#[derive(Clone, Copy, Debug, PartialEq, Eq)]
+pub enum Fallback {
+    Bins(usize),
+    Draws(usize),
+}
+
+impl Fallback {
+    /// The size of the committee.
+    pub fn size(self) -> usize
+        ensures { result ≡ size_of self }
+    {
+        match self {
+            Fallback::Bins(k) => k,
+            Fallback::Draws(k) => k,
         }
-        PartitionAnswer::Refused(n) => CommitteeAnswer::Refused(n),
+    }
+
+    // Whether the columns have places for the pieces of `n` stakes.
+    fn check_pieces(self, columns: &Columns, n: usize) -> Result<(), Refusal>
+        requires short { n ≤ 4096 }
+        requires few { size_of self ≤ 1024 }
+        ensures { result ≡ first_of (piece_checks self n (held_of columns.now)) }
+    {
+        match self {
+            Fallback::Bins(k) => check_columns(columns, n + k),
+            Fallback::Draws(_) => Ok(()),
+        }
     }
 }
 
-// A committee of k with scratch space for kept stake, order and seats.
-fn committee_in_scratch(
+/// A sampler that gives each validator the whole number of seats in its share, and draws the others.
+#[derive(Clone, Copy, Debug, PartialEq, Eq)]
+pub struct FaitAccompli1Sampler {
+    // An enum and no type parameter: a committee sampler names its fallback, and the fallback's numbers stay in the sampler's record.
     fallback: Fallback,
-    k: usize,
-    stakes: &[u64],
-    sum: u64,
-    first: &[u64],
-    first_cursor: usize,
-    second: &[u64],
-    second_cursor: usize,
-    kept: &mut [u64],
-    order: &mut [u64],
-    committee: &mut [u64],
-    seats: &mut [u64],
-    piece_bins: &mut [u64],
-    piece_validators: &mut [u64],
-    piece_stakes: &mut [u64],
-) -> CommitteeAnswer
-    requires admitted { Admitted fallback stakes.now sum (length seats.old) (length piece_bins.old) (length piece_validators.old) (length piece_stakes.old) }
-    requires k_value { k ≡ size_of fallback }
-    requires kept_room { length stakes.now ≤ length kept.old }
-    requires order_room { length stakes.now ≤ length order.old }
-    requires committee_room { k ≤ length committee.old }
-    ensures value { result ≡ committee_answer (drop first_cursor first.now) (drop second_cursor second.now) (committee_over fallback stakes.now (drop first_cursor first.now) (drop second_cursor second.now)) }
-    ensures seats_after { seats.new ≡ buffer_after (committee_over fallback stakes.now (drop first_cursor first.now) (drop second_cursor second.now)) seats_of seats.old }
-    ensures piece_bins_after { piece_bins.new ≡ buffer_after (committee_over fallback stakes.now (drop first_cursor first.now) (drop second_cursor second.now)) piece_bins_of piece_bins.old }
-    ensures piece_validators_after { piece_validators.new ≡ buffer_after (committee_over fallback stakes.now (drop first_cursor first.now) (drop second_cursor second.now)) piece_validators_of piece_validators.old }
-    ensures piece_stakes_after { piece_stakes.new ≡ buffer_after (committee_over fallback stakes.now (drop first_cursor first.now) (drop second_cursor second.now)) piece_stakes_of piece_stakes.old }
-{
-    let n = stakes.len();
-    fill_committee(
-        fallback,
-        stakes,
-        sum,
-        first,
-        first_cursor,
-        second,
-        second_cursor,
-        &mut kept[..n],
-        &mut order[..n],
-        &mut committee[..k],
-        seats,
-        piece_bins,
-        piece_validators,
-        piece_stakes,
-    )
 }
 
-// A committee of k, in scratch space that is chosen by the sizes, since zeroing what is not needed costs time.
-pub fn draw_quorum(
-    fallback: Fallback,
-    k: usize,
-    stakes: &[u64],
-    sum: u64,
-    first: &[u64],
-    first_cursor: usize,
-    second: &[u64],
-    second_cursor: usize,
-    seats: &mut [u64],
-    piece_bins: &mut [u64],
-    piece_validators: &mut [u64],
-    piece_stakes: &mut [u64],
-) -> CommitteeAnswer
-    requires admitted { Admitted fallback stakes.now sum (length seats.old) (length piece_bins.old) (length piece_validators.old) (length piece_stakes.old) }
-    requires k_value { k ≡ size_of fallback }
-    requires stakes_len_bound { length stakes.now ≤ 4096 }
-    ensures value { result ≡ committee_answer (drop first_cursor first.now) (drop second_cursor second.now) (committee_over fallback stakes.now (drop first_cursor first.now) (drop second_cursor second.now)) }
-    ensures seats_after { seats.new ≡ buffer_after (committee_over fallback stakes.now (drop first_cursor first.now) (drop second_cursor second.now)) seats_of seats.old }
-    ensures piece_bins_after { piece_bins.new ≡ buffer_after (committee_over fallback stakes.now (drop first_cursor first.now) (drop second_cursor second.now)) piece_bins_of piece_bins.old }
-    ensures piece_validators_after { piece_validators.new ≡ buffer_after (committee_over fallback stakes.now (drop first_cursor first.now) (drop second_cursor second.now)) piece_validators_of piece_validators.old }
-    ensures piece_stakes_after { piece_stakes.new ≡ buffer_after (committee_over fallback stakes.now (drop first_cursor first.now) (drop second_cursor second.now)) piece_stakes_of piece_stakes.old }
-{
-    let n = stakes.len();
-    if n <= 64 && k <= 64 {
-        let mut kept = [0u64; 64];
-        let mut order = [0u64; 64];
-        let mut committee = [0u64; 64];
-        return committee_in_scratch(
-            fallback,
-            k,
-            stakes,
-            sum,
-            first,
-            first_cursor,
-            second,
-            second_cursor,
-            &mut kept,
-            &mut order,
-            &mut committee,
-            seats,
-            piece_bins,
-            piece_validators,
-            piece_stakes,
-        );
+impl FaitAccompli1Sampler {
+    /// A sampler for committees of `k`, with one seat from each bin.
+    pub fn new_with_partition_fallback(k: usize) -> Self
+        ensures { result ≡ record { fallback = Bins k } }
+    {
+        Self {
+            fallback: Fallback::Bins(k),
+        }
     }
-    let mut committee = [0u64; 1024];
-    if n <= 1024 {
-        let mut kept = [0u64; 1024];
-        let mut order = [0u64; 1024];
-        return committee_in_scratch(
-            fallback,
-            k,
-            stakes,
-            sum,
-            first,
-            first_cursor,
-            second,
-            second_cursor,
-            &mut kept,
-            &mut order,
-            &mut committee,
-            seats,
-            piece_bins,
-            piece_validators,
-            piece_stakes,
-        );
+
+    /// A sampler for committees of `k`, with plain draws.
+    pub fn new_with_stake_weighted_fallback(k: usize) -> Self
+        ensures { result ≡ record { fallback = Draws k } }
+    {
+        Self {
+            fallback: Fallback::Draws(k),
+        }
     }
-    let mut kept = [0u64; 4096];
-    let mut order = [0u64; 4096];
-    committee_in_scratch(
-        fallback,
-        k,
-        stakes,
-        sum,
-        first,
-        first_cursor,
-        second,
-        second_cursor,
-        &mut kept,
-        &mut order,
-        &mut committee,
-        seats,
-        piece_bins,
-        piece_validators,
-        piece_stakes,
-    )
+
+    /// The size of a committee.
+    pub fn quorum_size(self) -> usize
+        ensures { result ≡ size_of self.fallback }
+    {
+        self.fallback.size()
+    }
+
+    /// A committee, written to the front of `seats`: the fixed seats in list order, then those of the fallback. Over bins the list is
+    /// shuffled by the first words and the seats are drawn by the second, and the pieces are written to the front of the columns in fill
+    /// order; plain draws read the first words. What is lent keeps what it held where the call is turned down.
+    ///
+    /// # Errors
+    ///
+    /// The first that applies: the list is empty or too long, the committee is too large or has no seat, the seats are fewer than `k`, over
+    /// bins a column is shorter than `n + k` for `n` stakes, the stakes sum past 64 bits or to 0, a bin would be empty, a word is missing.
+    pub fn sample_quorum<A: WordSource + Drop, B: WordSource + Drop>(
+        self,
+        stakes: &[u64],
+        first: A,
+        second: B,
+        seats: &mut [u64],
+        columns: &mut Columns,
+    ) -> Result<Committee, Refusal>
+        ensures sampled { (result, (seats.new, held_of columns.new))
+            ≡ sample_quorum self stakes.now (seats.old, held_of columns.old) (A.words first) (B.words second) }
+        ensures same { SameLoans columns.old columns.new }
+    {
+        let (mut first, mut second) = (first, second);
+        let (n, k) = (stakes.len(), self.fallback.size());
+        check_list_length(n)?;
+        check_size_of_some(k)?;
+        check_room(seats.len(), k)?;
+        self.fallback.check_pieces(columns, n)?;
+        let sum = check_sum(stakes)?;
+        let list = Summed { stakes, sum };
+        if n <= 64 && k <= 64 {
+            self.in_scratch::<A, B, 64, 64>(list, &mut first, &mut second, seats, columns)
+        } else if n <= 1024 {
+            self.in_scratch::<A, B, 1024, 1024>(list, &mut first, &mut second, seats, columns)
+        } else {
+            self.in_scratch::<A, B, 4096, 1024>(list, &mut first, &mut second, seats, columns)
+        }
+    }
+
+    // A committee in scratch space for up to N stakes and K seats, since zeroing what is not needed costs time. That N and K are small is
+    // asked, as no type says it.
+    fn in_scratch<A: WordSource, B: WordSource, const N: usize, const K: usize>(
+        self,
+        list: Summed,
+        first: &mut A,
+        second: &mut B,
+        seats: &mut [u64],
+        columns: &mut Columns,
+    ) -> Result<Committee, Refusal>
+        requires small { (N ≤ 4096) × (K ≤ 1024) }
+        requires stakes { length list.stakes.now ≤ N }
+        requires drawn { size_of self.fallback ≤ K }
+        requires seat { 0 < size_of self.fallback }
+        requires sum { list.sum ≡ sum list.stakes.now }
+        requires some { 0 < list.sum }
+        requires seats { size_of self.fallback ≤ length seats.old }
+        requires room { Roomy self.fallback columns.old (length list.stakes.now) (size_of self.fallback) }
+        ensures told { (result, (seats.new, held_of columns.new))
+            ≡ told self.fallback list.entry.stakes.now (seats.old, held_of columns.old) (A.words first.old) (B.words second.old)
+            (committee_over self.fallback list.entry.stakes.now (A.words first.old) (B.words second.old)) }
+        ensures same { SameLoans columns.old columns.new }
+    {
+        let (n, k) = (list.stakes.len(), self.fallback.size());
+        let mut space = [0; N];
+        let mut kept = [0; N];
+        let mut drawn = [0; K];
+        let kept = &mut kept[..n];
+        let drawn = &mut drawn[..k];
+        let (first_left, second_left) = (first.words_left(), second.words_left());
+        let fixed = seat_fixed(list.stakes, Division::new(k as u64, list.sum), drawn, kept);
+        let kept = Summed {
+            stakes: kept,
+            sum: fixed.stake,
+        };
+        let others = &mut drawn[fixed.seats..];
+        let pieces = draw_further(
+            self.fallback,
+            kept,
+            first,
+            second,
+            &mut space[..n],
+            others,
+            columns,
+        )?;
+        seats[..k].copy_from_slice(drawn);
+        Ok(Committee {
+            further: k - fixed.seats,
+            pieces,
+            first_words_read: first_left.saturating_sub(first.words_left()),
+            second_words_read: second_left.saturating_sub(second.words_left()),
+        })
+    }
+}
+
+#[cfg(test)]
+mod tests {
+    use super::*;
+    use words::ListWords;
+
+    #[test]
+    fn fixed_seats_stand_before_those_of_the_bins(rt: HostRuntime) {
+        let mut seats = [7; 5];
+        let mut bins = [7; 8];
+        let mut validators = [7; 8];
+        let mut stakes = [7; 8];
+        let mut columns = Columns {
+            bins: &mut bins,
+            validators: &mut validators,
+            stakes: &mut stakes,
+        };
+        let sampler = FaitAccompli1Sampler::new_with_partition_fallback(4);
+        let first = ListWords::new(&[1, 2], 0);
+        let second = ListWords::new(&[9, 1], 1);
+        let answer = sampler.sample_quorum(&[5, 3, 2], first, second, &mut seats, &mut columns);
+        let committee = Committee {
+            further: 1,
+            pieces: 2,
+            first_words_read: 2,
+            second_words_read: 1,
+        };
+        assert_eq!(rt; answer, Ok(committee));
+        assert_eq!(rt; seats, [0, 0, 1, 2, 7]);
+        assert_eq!(rt; bins, [0, 0, 7, 7, 7, 7, 7, 7]);
+        assert_eq!(rt; validators, [1, 2, 7, 7, 7, 7, 7, 7]);
+        assert_eq!(rt; stakes, [1, 2, 7, 7, 7, 7, 7, 7]);
+    }
+
+    #[test]
+    fn plain_draws_leave_the_columns(rt: HostRuntime) {
+        let mut seats = [7; 4];
+        let mut columns = Columns {
+            bins: &mut [],
+            validators: &mut [],
+            stakes: &mut [],
+        };
+        let sampler = FaitAccompli1Sampler::new_with_stake_weighted_fallback(4);
+        let first = ListWords::new(&[0], 0);
+        let second = ListWords::new(&[], 0);
+        let answer = sampler.sample_quorum(&[5, 3, 2], first, second, &mut seats, &mut columns);
+        let committee = Committee {
+            further: 1,
+            pieces: 0,
+            first_words_read: 1,
+            second_words_read: 0,
+        };
+        assert_eq!(rt; answer, Ok(committee));
+        assert_eq!(rt; seats, [0, 0, 1, 1]);
+        assert_eq!(rt; sampler.quorum_size(), 4);
+    }
 }

@@ -1,43 +1,43 @@
--- Weights in an order; the values that are drawn for bins, before anything is known of their shares; and the validators that they choose.
-use Rattle.std.specs.Prelude.{ℕ, zero, suc, ◌+◌, ◌-◌, ◌*◌, ◌<◌, min, List, [], ◌∷◌, map, length, get_or}
-use Rattle.laws.specs.Sums.{total}
-use Rattle.words.specs.Outcome.{Outcome, giving}
+-- A seat from each bin. A value is drawn for it before anything is known of the bin's shares, and chooses one of them later.
+use Rattle.std.specs.Prelude.{ℕ, zero, suc, ◌+◌, ◌-◌, ◌<◌, min, ◌&&◌, if◌then◌else◌, Option, Some, List, [], ◌∷◌, map, length, take, slice_index, set, ◌==◌, nat_lt}
+use Rattle.words.specs.Draw.{and_then}
 use Rattle.draws.specs.declared.weighted.Place.{Place}
-use Rattle.draws.specs.Weighted.{chosen, place_of, weighted}
-use Rattle.fill.specs.Fill.{Share}
+use Rattle.draws.specs.Below.{below}
+use Rattle.draws.specs.Weighted.{place_of, weighted}
+use Rattle.fill.specs.declared.piece.Piece.{Piece}
+use Rattle.fill.specs.declared.columns.Columns.{Columns}
+use Rattle.fill.specs.Fill.{Share, share_stakes}
 
--- weights in an order of their validators
-abbrev pub in_order : List ℕ → List ℕ → List Share
-in_order weights order = map (λ i. record { validator = i; stake = get_or weights i 0 }) order
-
--- the stakes of a bin's shares
-abbrev pub share_stakes : List Share → List ℕ
-share_stakes xs = map (λ x. x.stake) xs
-
--- the validator whose share stands at a place
+-- the validator whose share stands at a place of a bin
 abbrev pub holder : List Share → ℕ → ℕ
-holder xs at = get_or (map (λ x. x.validator) xs) at 0
+holder bin at = slice_index (map (λ x. x.validator) bin) at
 
 -- the validator at a place of a bin, with the remainder of the draw
 abbrev pub seat_of : List Share → Place → Place
 seat_of bin p = record { at = holder bin p.at; remainder = p.remainder }
 
 -- "One weighted draw from each bin"
-abbrev pub seat : List Share → List ℕ → Outcome Place
-seat bin ws = giving (seat_of bin) (weighted (share_stakes bin) ws)
+abbrev pub seat : List Share → List ℕ → Option Place × List ℕ
+seat bin ws = and_then (weighted (share_stakes bin) ws) (λ p left. (Some (seat_of bin p), left))
 
--- the sum of a bin
-abbrev pub bin_total : List Share → ℕ
-bin_total xs = total (share_stakes xs)
+-- "in bin order"
+abbrev pub seats : List (List Share) → List ℕ → Option (List Place) × List ℕ
+seats [] ws = (Some [], ws)
+seats (bin ∷ bins) ws = and_then (seat bin ws) (λ one left. and_then (seats bins left) (λ others rest. (Some (one ∷ others), rest)))
 
--- the sums of b bins: the capacity, or what is left of the total
+-- the sums of b bins: the capacity, or what is left of the sum S of all stakes
 abbrev pub bin_sums : ℕ → ℕ → ℕ → List ℕ
-bin_sums cap zero S = []
-bin_sums cap (suc b) S = min cap S ∷ bin_sums cap b (S - cap)
+bin_sums capacity zero S = []
+bin_sums capacity (suc b) S = min capacity S ∷ bin_sums capacity b (S - capacity)
+
+-- a value below each of the sums
+abbrev pub values_below : List ℕ → List ℕ → Option (List ℕ) × List ℕ
+values_below [] ws = (Some [], ws)
+values_below (m ∷ sums) ws = and_then (below m ws) (λ v left. and_then (values_below sums left) (λ vs rest. (Some (v ∷ vs), rest)))
 
 -- each value is below the sum of its bin
-abbrev pub Low : ℕ → ℕ → ℕ → List ℕ → Type 0
-Low cap b S values = (j : ℕ) → j < b → get_or values j 0 < get_or (bin_sums cap b S) j 0
+abbrev pub Low : List ℕ → List ℕ → Type 0
+Low sums values = (j : ℕ) → j < length sums → slice_index values j < slice_index sums j
 
 -- the seats that values choose, each in its bin
 abbrev pub choices : List (List Share) → List ℕ → List Place
@@ -45,11 +45,23 @@ choices [] vs = []
 choices (bin ∷ bins) [] = []
 choices (bin ∷ bins) (v ∷ vs) = seat_of bin (place_of (share_stakes bin) v) ∷ choices bins vs
 
--- each value is below the capacity, and lies below S where the values of bin j count from j times the capacity on
-abbrev pub InBins : ℕ → ℕ → List ℕ → Type 0
-InBins cap S values = (j : ℕ) → j < length values → (get_or values j 0 < cap) × (j * cap + get_or values j 0 < S)
+-- the pieces that stand in three columns
+abbrev pub rows : List ℕ → List ℕ → List ℕ → List Piece
+rows [] validators stakes = []
+rows (j ∷ bins) [] stakes = []
+rows (j ∷ bins) (i ∷ validators) [] = []
+rows (j ∷ bins) (i ∷ validators) (x ∷ stakes) = record { bin = j; validator = i; stake = x } ∷ rows bins validators stakes
 
--- the validators that values choose among all pieces, where the values of bin j count from j times the capacity on
-abbrev pub seats_at : ℕ → List ℕ → List ℕ → ℕ → List ℕ → List ℕ
-seats_at cap validators stakes j [] = []
-seats_at cap validators stakes j (v ∷ vs) = get_or validators (chosen stakes (j * cap + v)) 0 ∷ seats_at cap validators stakes (j + 1) vs
+-- the first n of the pieces that stand in columns
+abbrev pub rows_of : ℕ → Columns → List Piece
+rows_of n columns = rows (take n columns.bins.now) (take n columns.validators.now) (take n columns.stakes.now)
+
+-- values with validators in their places, from the next bin on, by one piece after another: a piece of that bin gives its validator where
+-- the value is below its stake, and else leaves what the value exceeds it by
+abbrev pub replaced : ℕ → List Piece → List ℕ → List ℕ
+replaced next [] held = held
+replaced next (piece ∷ ps) held =
+    (if piece.bin == next && nat_lt next (length held)
+    then (if nat_lt (slice_index held next) piece.stake then replaced (next + 1) ps (set held next piece.validator)
+    else replaced next ps (set held next (slice_index held next - piece.stake)))
+    else replaced next ps held)

@@ -1,6 +1,14 @@
-// The fill rule, which stands by itself: weights in an order, a capacity and a number of bins give pieces. Nothing here knows how the
-// capacity was found.
+//! Bins that are filled one after another with stakes in an order, and one seat from each.
 #![tactic(auto)]
 
-pub mod rule;
-pub mod values;
+mod columns;
+mod piece;
+mod rule;
+mod seats;
+mod values;
+
+pub use columns::Columns;
+pub use piece::Piece;
+pub use rule::fill;
+pub use seats::fill_and_choose;
+pub use values::draw_values;

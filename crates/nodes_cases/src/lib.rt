@@ -1,13 +1,12 @@
-// Nodes that a program lends to the call it tries: a run of 280, which hold the same before, and what the call left of it.
+//! Nodes that a program lends to the call it tries: a run that holds the same before, and what the call left of it.
 #![tactic(auto)]
 
-ghost use Rattle.std.specs.Prelude.{◌≡◌, take, drop, replicate};
+ghost use Rattle.std.specs.Prelude.{◌≡◌, replicate, if◌then◌else◌};
 ghost use Rattle.nodes_cases.specs.Held.{every, every_sum, zeros_then};
 
-use nodes::node::Node;
-use tree::sizes;
+use tree::{Node, get_num_nodes_and_tree_size};
 
-// A node whose sums are all the same.
+/// A node whose sums are all the same.
 pub fn filled(sum: u64) -> Node
     ensures { result ≡ record { sums = replicate 16 sum } }
 {
@@ -15,47 +14,34 @@ pub fn filled(sum: u64) -> Node
 }
 
 // Whether every sum of a node is this.
-fn holds(node: Node, sum: u64) -> bool
-    ensures { result ≡ every sum node.sums }
+fn holds(node: &Node, sum: u64) -> bool
+    ensures { result ≡ every sum node.now.sums }
 {
-    let mut j = 0;
-    while j < 16 {
-        let value = node.sums[j];
-        if value != sum {
-            return false;
-        }
-        j += 1;
-    }
-    true
-}
-
-// Whether every sum of the nodes from one place to another is this.
-fn all_hold(nodes: [Node; 280], from: usize, to: usize, sum: u64) -> bool
-    ensures { result ≡ every_sum sum (drop from (take to nodes)) }
-{
-    let mut i = from;
-    while i < to && i < 280 {
-        let node = nodes[i];
-        if !holds(node, sum) {
-            return false;
-        }
-        i += 1;
-    }
-    true
-}
-
-// Whether the nodes of the tree of n weights are zeros, and each sum of the others is `held`, as before: so after an accepted call.
-pub fn cleared(nodes: [Node; 280], n: usize, held: u64) -> bool
-    ensures { result ≡ zeros_then n held nodes }
-{
-    let sizes = sizes::get_num_nodes_and_tree_size(n);
-    let size = sizes.tree_size;
-    all_hold(nodes, 0, size, 0) && all_hold(nodes, size, 280, held)
+    node.sums.iter().all(|value| *value == sum)
 }
 
 // Whether each sum of all the nodes is `held`, as before: so after a refused call.
-pub fn kept(nodes: [Node; 280], held: u64) -> bool
-    ensures { result ≡ every_sum held nodes }
+fn kept(nodes: &[Node], held: u64) -> bool
+    ensures { result ≡ every_sum held nodes.now }
 {
-    all_hold(nodes, 0, 280, held)
+    nodes.iter().all(|node| holds(node, held))
+}
+
+// Whether the nodes of the tree of n weights are zeros, and each sum of the others is `held`, as before: so after an accepted call.
+fn cleared(nodes: &[Node], n: usize, held: u64) -> bool
+    ensures { result ≡ zeros_then n held nodes.now }
+{
+    let size = get_num_nodes_and_tree_size(n).tree_size.min(nodes.len());
+    kept(&nodes[..size], 0) && kept(&nodes[size..], held)
+}
+
+/// Whether a call for n weights that was accepted or refused left the nodes as it must.
+pub fn left_so(nodes: &[Node], accepted: bool, n: usize, held: u64) -> bool
+    ensures { result ≡ (if accepted then zeros_then n held nodes.now else every_sum held nodes.now) }
+{
+    if accepted {
+        cleared(nodes, n, held)
+    } else {
+        kept(nodes, held)
+    }
 }

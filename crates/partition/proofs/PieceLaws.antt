@@ -1,39 +1,39 @@
 -- Laws of the pieces: what every accepted partition holds.
 use Prim.Native.Nat.{ℕ, zero, suc, ◌+◌, ◌-◌, ◌*◌, ◌≤◌, ◌<◌, min}
-use mathlib.Core.Path.{◌≡◌, refl, sym, ap, ap₂, ◌∙◌}
+use mathlib.Core.Path.{◌≡◌, refl, sym, ap, ◌∙◌}
 use mathlib.Core.Bool.{Bool, true, false, cond}
 use mathlib.Core.List.{List, [], ◌∷◌, ◌++◌, append-nil}
-use native.Mathlib.Nat.{mul-le-mul_right}
+use native.Mathlib.Nat.{mul-le-mul_right, mul_comm}
 use native.Mathlib.Omega.{arith}
 use lib.Dec.{eqb}
 use lib.ListN.{length, get_or, length-map, get_or-eq_default}
-use borrow.Author.Tests.{eq-eqb, ne_eqb}
+use borrow.Author.Tests.{eq-eqb, ne_eqb, leb-false, le-leb}
+use Rattle.std.specs.Prelude.{Option, Some, None, Result, Ok, Err, sum}
+use Rattle.std.proofs.lemmas.Grind.{div_ceil_times}
 use Rattle.laws.specs.Sums.{total, sum_of}
 use Rattle.laws.specs.Counts.{count_below, count}
 use Rattle.laws.specs.Orders.{Permutation, ids_from}
 use Rattle.laws.proofs.Ids.{order_long}
 use Rattle.laws.proofs.Lists.{those-append, those_sum, those-length}
-use Rattle.refusals.specs.declared.Refusal.TheVariants.{None}
-use Rattle.refusals.specs.Refusals.{lowest, empty_bin}
-use Rattle.refusals.proofs.CheckLaws.{last_passed}
-use Rattle.words.specs.Outcome.{accepted, each, giving}
-use Rattle.words.proofs.Outcomes.{Went, went, unrefused}
-use Rattle.words.proofs.EachLaws.{both, each_long}
+use Rattle.laws.proofs.Std.{total_is_sum, permutation_is}
+use Rattle.refusals.specs.declared.refusal.Refusal.{Refusal}
+use Rattle.refusals.specs.Refusal.{Check, first_of, list_length, size, short_buffer, sum_checks, empty_bin}
+use Rattle.words.specs.Draw.{after, and_then}
 use Rattle.draws.specs.declared.weighted.Place.{Place}
 use Rattle.draws.specs.Weighted.{weighted, weight_where, ids, Placed}
 use Rattle.draws.specs.Shuffle.{shuffle}
+use Rattle.draws.proofs.DrawLemmas.{went, weighted_placed}
 use Rattle.draws.proofs.Fairness.{counting}
-use Rattle.draws.proofs.WeightedLaws.{placed}
-use Rattle.draws.proofs.ShuffleLaws.{shuffle_permutes}
-use Rattle.fill.specs.Fill.{Share, Piece, fill, numbered, pieces, validators_of, stakes_of}
-use Rattle.fill.specs.Values.{in_order, share_stakes, holder, seat_of, seat}
-use Rattle.partition.specs.Seats.{capacity, Parted, over_bins, seat_ids}
-use Rattle.partition.specs.Calls.{Places, quorum_checks}
+use Rattle.draws.proofs.ShuffleLemmas.{shuffle_permutes}
+use Rattle.fill.specs.declared.piece.Piece.{Piece}
+use Rattle.fill.specs.Piece.{validators_of, stakes_of}
+use Rattle.fill.specs.Fill.{Share, in_order, share_stakes, bin_total, fill, numbered, pieces}
+use Rattle.fill.specs.Values.{holder, seat_of, seat, seats}
+use Rattle.fill.proofs.FillLaws.{numbered_sum, pieces_sum, Additive, measure, tally, fill_sums, fill_long, fill_adds, fill_single, fill_two, fill_positive, pieces_few, stakes_total}
+use Rattle.partition.specs.Partition.{capacity, most_pieces, short_pieces, Parted, seat_ids, over_bins, parted, turned, or_no_word}
+use Rattle.partition.specs.Calls.{Lent, checks}
 use Rattle.partition.specs.Pieces.{in_bin, of, sum_of_pieces, chooses, Filled, PartitionsFilled}
-use Rattle.fill.proofs.FillLaws.{numbered_sum, pieces_sum, Additive, measure, tally, fill_sums, fill_long, fill_adds, fill_single, fill_two, fill_positive}
 use Rattle.partition.proofs.OrderLaws.{order_total, order_weight, order_once, order_within}
-use Rattle.partition.proofs.CallLaws.{by_size, by_sum, capacity_fits, last_some}
-use Rattle.fill.proofs.FillingLaws.{whole_number}
 
 -- ---- the pieces of a bin, and of a validator
 
@@ -103,49 +103,51 @@ holder_has i [] at h = absurd (omega arith)
 holder_has i (x ∷ xs) zero h = omega arith
 holder_has i (x ∷ xs) (suc at) h = omega (arith, holder_has i xs at (omega arith))
 
-seat_has : (i : ℕ) (bin : List Share) (ws : List ℕ) {p : Place} {left : List ℕ} → 0 < total (share_stakes bin) → seat bin ws ≡ accepted p left → one i p.at ≤ tally (one i) bin
-seat_has i bin ws {p} {left} h e =
-    let g : Went (weighted (share_stakes bin) ws) (λ q l. accepted (seat_of bin q) l) p left = went _ _ e in
-    let w : Placed (share_stakes bin) g.value = placed (share_stakes bin) ws h g.first in
-    let q : seat_of bin g.value ≡ p = cc in
+seat_has : (i : ℕ) (bin : List Share) (ws : List ℕ) (p : Place) → 0 < bin_total bin → (seat bin ws).0 ≡ Some p → one i p.at ≤ tally (one i) bin
+seat_has i bin ws p h e =
+    let g = went (weighted (share_stakes bin) ws) (λ q left. (Some (seat_of bin q), left)) p e in
+    let w : Placed (share_stakes bin) g.value = weighted_placed (share_stakes bin) ws g.value h g.first in
+    let q : seat_of bin g.value ≡ p = (let r = g.second in cc) in
     rw (← q) (holder_has i bin g.value.at (omega (arith, w.within, length-map bin (λ (x : Share). x.stake))))
 
 -- a validator is drawn at most once for each bin that it has a share in
-pub each_has : (i : ℕ) (bins : List (List Share)) (ws : List ℕ) {ps : List Place} {left : List ℕ} →
-    ((j : ℕ) → j < length bins → 0 < total (share_stakes (get_or bins j []))) → each seat bins ws ≡ accepted ps left → count i (ids ps) ≤ sum_of (tally (one i)) bins
-each_has i [] ws {ps} h e = let q : ◌≡◌ {A = List Place} [] ps = cc in rw (← q) (omega arith)
-each_has i (bin ∷ bins) ws h e =
-    let b = both seat bin bins ws e in
-    rw b.is (omega (arith, seat_has i bin ws (h 0 (omega arith)) b.first, each_has i bins b.words (λ j l. h (suc j) (omega arith)) b.then))
+pub seats_have : (i : ℕ) (bins : List (List Share)) (ws : List ℕ) (ps : List Place) →
+    ((j : ℕ) → j < length bins → 0 < bin_total (get_or bins j [])) → (seats bins ws).0 ≡ Some ps → (count i (ids ps) ≤ sum_of (tally (one i)) bins) × (length ps ≡ length bins)
+seats_have i [] ws ps h e = let q : ◌≡◌ {A = List Place} [] ps = cc in rw (← q) (omega arith, refl)
+seats_have i (bin ∷ bins) ws ps h e =
+    let f = went (seat bin ws) (λ p left. and_then (seats bins left) (λ others rest. (Some (p ∷ others), rest))) ps e in
+    let g = went (seats bins f.rest) (λ others rest. (Some (f.value ∷ others), rest)) ps f.second in
+    let q : f.value ∷ g.value ≡ ps = (let r = g.second in cc) in
+    let others = seats_have i bins f.rest g.value (λ j l. h (suc j) (omega arith)) g.first in
+    rw (← q) (omega (arith, seat_has i bin ws f.value (h 0 (omega arith)) f.first, others.0), omega (arith, others.1))
 
 -- ---- bins over any weights, capacity and number
 
--- what an accepted draw from b bins, at least one, went through
-pub record Over (weights : List ℕ) (cap b : ℕ) (first second : List ℕ) (p : Parted) (left : List ℕ) : Type 0 where
+-- what an accepted draw from b bins went through
+pub record Over (weights : List ℕ) (cap b : ℕ) (second : List ℕ) (p : Parted) : Type 0 where
   pub order : List ℕ
   pub permutes : Permutation (ids_from 0 (length weights)) order
   pub pieces_are : p.pieces ≡ pieces 0 (fill cap b (in_order weights order))
-  pub draws : each seat (fill cap b (in_order weights order)) second ≡ accepted p.drawn left
+  pub draws : (seats (fill cap b (in_order weights order)) second).0 ≡ Some p.drawn
 
-pub over : (weights : List ℕ) (cap b : ℕ) (first second : List ℕ) {p : Parted} {left : List ℕ} → 0 < b → over_bins weights cap b first second ≡ accepted p left → Over weights cap b first second p left
-over weights cap zero first second h e = absurd (omega arith)
-over weights cap (suc b) first second {p} {left} h e = go (went _ _ e)
+pub over : (weights : List ℕ) (cap b : ℕ) (first second : List ℕ) (p : Parted) → (over_bins weights cap b first second).0 ≡ Some p → Over weights cap b second p
+over weights cap b first second p e =
+    let order = (shuffle (ids_from 0 (length weights)) first).1 in
+    let bins = fill cap b (in_order weights order) in
+    let g = parts (shuffle (ids_from 0 (length weights)) first).0 (shuffle (ids_from 0 (length weights)) first).2 (seats bins second) (pieces 0 bins) e in
+    record {
+      order = order;
+      permutes = permutation_is (ids_from 0 (length weights)) order (shuffle_permutes (ids_from 0 (length weights)) first);
+      pieces_are = g.0;
+      draws = g.1;
+    }
   where
-    same : {x y : Parted} {l m : List ℕ} → accepted x l ≡ accepted y m → (x ≡ y) × (l ≡ m)
-    same e = (cc, cc)
-
-    go : Went (shuffle (ids_from 0 (length weights)) first) (λ order rest.
-        giving (λ drawn. record { drawn = drawn; pieces = pieces 0 (fill cap (suc b) (in_order weights order)); first_left = rest }) (each seat (fill cap (suc b) (in_order weights order)) second)) p left →
-        Over weights cap (suc b) first second p left
-    go g =
-        let d : Went (each seat (fill cap (suc b) (in_order weights g.value)) second) (λ drawn l. accepted (record { drawn = drawn; pieces = pieces 0 (fill cap (suc b) (in_order weights g.value)); first_left = g.words }) l) p left = went _ _ g.then in
-        let q = same d.then in
-        record {
-          order = g.value;
-          permutes = shuffle_permutes (ids_from 0 (length weights)) first g.first;
-          pieces_are = sym (ap (λ (x : Parted). x.pieces) q.0);
-          draws = d.first ∙ ap₂ accepted (ap (λ (x : Parted). x.drawn) q.0) q.1;
-        }
+    parts : (done : Option (Unit {0})) (left : List ℕ) (drawn : Option (List Place) × List ℕ) (ps : List Piece) →
+        (after {R = Option Parted × List ℕ × List ℕ} (done, left) (λ left. (None, left, second)) (λ done left. after drawn (λ rest. (None, left, rest)) (λ places rest. (Some (record { drawn = places; pieces = ps }), left, rest)))).0 ≡ Some p →
+        (p.pieces ≡ ps) × (drawn.0 ≡ Some p.drawn)
+    parts None left drawn ps e = cc
+    parts (Some done) left (None, rest) ps e = cc
+    parts (Some done) left (Some places, rest) ps e = let q : record { drawn = places; pieces = ps } ≡ p = cc in rw (← q) (refl, refl)
 
 -- every bin gets something, where the last one does
 bin_some : (S cap b j : ℕ) → j < b → (b - 1) * cap < S → S ≤ b * cap → 0 < min cap (S - j * cap)
@@ -158,7 +160,7 @@ bin_some S cap b j h l r = go (cap) refl
     go zero e = absurd (omega (arith, ap (b *◌) e))
     go (suc c) e = omega (arith, mul-le-mul_right cap le)
 
-module _ (weights : List ℕ) (cap b : ℕ) (first second : List ℕ) {p : Parted} {left : List ℕ} (some : 0 < b) (o : Over weights cap b first second p left) where
+module _ (weights : List ℕ) (cap b : ℕ) (second : List ℕ) {p : Parted} (o : Over weights cap b second p) where
   abbrev shares : List Share
   shares = in_order weights o.order
 
@@ -185,7 +187,7 @@ module _ (weights : List ℕ) (cap b : ℕ) (first second : List ℕ) {p : Parte
   once i j = omega (arith, of_number i (in_bin j p.pieces), bin_sum (λ v a. one i v) j, fill_single (one i) cap b j shares, order_once weights o.order o.permutes i)
 
   pub number_le : length p.pieces ≤ length weights + b
-  number_le = omega (arith, ap length o.pieces_are, whole_number weights o.order cap b, order_long (length weights) o.order o.permutes)
+  number_le = omega (arith, ap length o.pieces_are, pieces_few weights o.order cap b, order_long (length weights) o.order o.permutes)
 
   module _ (fits : total weights ≤ b * cap) (last : (b - 1) * cap < total weights) where
     adds : (i : ℕ) → sum_of (measure (own i)) bins ≡ get_or weights i 0
@@ -202,13 +204,13 @@ module _ (weights : List ℕ) (cap b : ℕ) (first second : List ℕ) {p : Parte
       few = number_le;
     }
 
-    bins_some : (j : ℕ) → j < length bins → 0 < total (share_stakes (get_or bins j []))
+    bins_some : (j : ℕ) → j < length bins → 0 < bin_total (get_or bins j [])
     bins_some j l =
         let k : j < b = omega (arith, fill_long cap b shares) in
-        omega (arith, fill_sums cap b j shares k, ap (λ (S : ℕ). min cap (S - j * cap)) whole, bin_some (total weights) cap b j k last fits)
+        omega (arith, stakes_total (get_or bins j []), fill_sums cap b j shares k, ap (λ (S : ℕ). min cap (S - j * cap)) whole, bin_some (total weights) cap b j k last fits)
 
     drawn_le : (i : ℕ) → count i (seat_ids p) ≤ sum_of (tally (one i)) bins
-    drawn_le i = each_has i bins second bins_some o.draws
+    drawn_le i = (seats_have i bins second p.drawn bins_some o.draws).0
 
     -- a validator without weight is not drawn
     pub over_none : (i : ℕ) → get_or weights i 0 ≡ 0 → count i (seat_ids p) ≡ 0
@@ -222,32 +224,60 @@ module _ (weights : List ℕ) (cap b : ℕ) (first second : List ℕ) {p : Parte
     pub over_two : ((i : ℕ) → get_or weights i 0 ≤ cap) → (i : ℕ) → count i (seat_ids p) ≤ 2
     over_two h i = omega (arith, drawn_le i, fill_two (one i) cap b shares (order_within cap weights o.order h), order_once weights o.order o.permutes i)
 
-  -- as many seats as bins
-  pub over_seats : length (seat_ids p) ≡ b
-  over_seats = length-map p.drawn (λ (q : Place). q.at) ∙ each_long seat bins second o.draws ∙ fill_long cap b shares
+    -- as many seats as bins
+    pub over_seats : length (seat_ids p) ≡ b
+    over_seats = length-map p.drawn (λ (q : Place). q.at) ∙ (seats_have 0 bins second p.drawn bins_some o.draws).1 ∙ fill_long cap b shares
 
 -- ---- every accepted partition
 
--- a call that is not refused has passed 11
-none_empty : (stakes : List ℕ) (b : ℕ) (places : Places) → lowest (quorum_checks stakes b places) ≡ None → (empty_bin (capacity (total stakes) b) (total stakes) b).applies ≡ false
-none_empty stakes b places e =
-    let first = by_size stakes b places [] [] ++ by_sum stakes b places [] [] in
-    last_passed first (empty_bin (capacity (total stakes) b) (total stakes) b) e
+-- a call that is not refused has passed its checks, and among them 11
+last_passes : (cs : List Check) (c : Check) → first_of (cs ++ c ∷ []) ≡ Ok tt → c.0 ≡ false
+last_passes [] (true, refusal) e = cc
+last_passes [] (false, refusal) e = refl
+last_passes ((true, refusal) ∷ cs) c e = cc
+last_passes ((false, refusal) ∷ cs) c e = last_passes cs c e
+
+pub record Passed (checks : Result (Unit {0}) Refusal) (drawn : Option Parted × List ℕ × List ℕ) (p : Parted) : Type 0 where
+  pub all : checks ≡ Ok tt
+  pub is : drawn.0 ≡ Some p
+
+pub passed : (checks : Result (Unit {0}) Refusal) (first second : List ℕ) (drawn : Option Parted × List ℕ × List ℕ) (p : Parted) → (turned checks first second (or_no_word drawn)).0 ≡ Ok p → Passed checks drawn p
+passed (Err refusal) first second drawn p e = cc
+passed (Ok tt) first second (None, left, rest) p e = cc
+passed (Ok tt) first second (Some q, left, rest) p e = let same : q ≡ p = cc in rw same (record { all = refl; is = refl })
+
+none_empty : (stakes : List ℕ) (b : ℕ) (lent : Lent) → first_of (checks stakes b lent) ≡ Ok tt → (empty_bin (capacity (sum stakes) b) (sum stakes) b).0 ≡ false
+none_empty stakes b (seats, (bins, validators, columns)) e =
+    last_passes
+    (list_length (length stakes) ∷ size b ∷ short_buffer (length seats) b ∷ (short_pieces (bins, validators, columns) (most_pieces (length stakes) b) ++ sum_checks stakes))
+    (empty_bin (capacity (sum stakes) b) (sum stakes) b) e
+
+-- b bins of the capacity have room for S
+pub capacity_fits : (S b : ℕ) → 0 < b → S ≤ b * capacity S b
+capacity_fits S b some = omega (arith, (div_ceil_times S b some).0, mul_comm b (capacity S b))
+
+-- where no bin would be empty, the last gets something
+pub last_some : (cap S b : ℕ) → 0 < b → (empty_bin cap S b).0 ≡ false → (b - 1) * cap < S
+last_some cap S b some e = leb-false S ((b - 1) * cap) (rw (le-leb 1 b some) at e)
+
+-- with a bin, something is drawn
+pub parted_some : (weights : List ℕ) (b : ℕ) (first second : List ℕ) → 0 < b → parted weights b first second ≡ over_bins weights (capacity (sum weights) b) b first second
+parted_some weights b first second some = rw (ne_eqb b 0 (λ e. omega arith)) refl
 
 pub partitions_filled : PartitionsFilled
-partitions_filled stakes zero places first second p left e =
-    let u = unrefused (lowest (quorum_checks stakes 0 places)) (over_bins stakes (capacity (total stakes) 0) 0 first second) e in
-    let is = u.is in
-    let q : record { drawn = []; pieces = []; first_left = first } ≡ p = cc in
+partitions_filled stakes zero lent first second p e =
+    let u = passed (first_of (checks stakes 0 lent)) first second (parted stakes 0 first second) p e in
+    let q : record { drawn = []; pieces = [] } ≡ p = (let is = u.is in cc) in
     rw (← q) (record { seats = refl; bins = λ h. absurd (omega arith) })
-partitions_filled stakes (suc b) places first second p left e =
-    let cap = capacity (total stakes) (suc b) in
-    let some : 0 < suc b = omega arith in
-    let u = unrefused (lowest (quorum_checks stakes (suc b) places)) (over_bins stakes cap (suc b) first second) e in
-    let o = over stakes cap (suc b) first second some u.is in
+partitions_filled stakes (suc b) lent first second p e =
+    let S = sum stakes in
+    let cap = capacity S (suc b) in
+    let u = passed (first_of (checks stakes (suc b) lent)) first second (parted stakes (suc b) first second) p e in
+    let o = over stakes cap (suc b) first second p (rw (parted_some stakes (suc b) first second (omega arith)) at u.is) in
+    let all : total stakes ≡ S = total_is_sum stakes in
+    let fits : total stakes ≤ suc b * cap = omega (arith, all, capacity_fits S (suc b) (omega arith)) in
+    let last : (suc b - 1) * cap < total stakes = omega (arith, all, last_some cap S (suc b) (omega arith) (none_empty stakes (suc b) lent u.all)) in
     record {
-      seats = over_seats stakes cap (suc b) first second some o;
-      bins = λ h.
-          over_filled stakes cap (suc b) first second some o (capacity_fits (total stakes) (suc b) some)
-          (last_some cap (total stakes) (suc b) some (none_empty stakes (suc b) places u.none));
+      seats = over_seats stakes cap (suc b) second o fits last;
+      bins = λ h. rw all (over_filled stakes cap (suc b) second o fits last);
     }

@@ -1,74 +1,58 @@
-// What turns a call down before the stakes are summed, and the capacity of the bins.
-ghost use Rattle.std.specs.Prelude.{◌<◌, ◌≡◌, [], ◌∷◌};
-ghost use Rattle.refusals.specs.Refusals.{lowest, list_length, size, short_buffer};
-ghost use Rattle.partition.specs.Calls.{short_pieces, most_pieces};
-ghost use Rattle.partition.specs.Seats.{capacity};
+ghost use Rattle.std.specs.Prelude.{◌≡◌, ◌≤◌, ◌<◌, [], ◌∷◌, length, Ok, IfOk};
+ghost use Rattle.refusals.specs.Refusal.{first_of, empty_bin, unless};
+ghost use Rattle.partition.specs.Partition.{held_of, short_pieces, most_pieces, capacity, Fillable};
 
-use refusals::Refusal;
+use fill::Columns;
+use refusals::{Refusal, check_room};
 
-// 7, for the columns of the pieces, where so many may come.
-pub fn short_pieces(
-    piece_bins: usize,
-    piece_validators: usize,
-    piece_stakes: usize,
-    needed: usize,
-) -> bool
-    ensures { result ≡ (short_pieces (record { seats = 0; bins = piece_bins; validators = piece_validators; stakes = piece_stakes }) needed).applies }
-{
-    if piece_bins < needed {
-        return true;
-    }
-    if piece_validators < needed {
-        return true;
-    }
-    piece_stakes < needed
+/// Bins of one capacity for stakes of this sum.
+#[derive(Clone, Copy, Debug, PartialEq, Eq)]
+pub struct Bins {
+    pub number: usize,
+    pub capacity: u64,
+    pub sum: u64,
 }
 
-// How many pieces may come.
-fn most_pieces(n: usize, bins: usize) -> usize
-    requires n_bound { n < 4097 }
-    requires bins_bound { bins < 1025 }
+// How many pieces `n` stakes in so many bins make at most.
+pub(crate) fn most_pieces(n: usize, bins: usize) -> usize
+    requires short { n ≤ 4096 }
+    requires few { bins ≤ 1024 }
     ensures { result ≡ most_pieces n bins }
 {
     if bins == 0 { 0 } else { n + bins }
 }
 
-// What turns a call down by the sizes alone: 1, 2 and 7.
-pub fn size_refusal(
-    n: usize,
-    bins: usize,
-    seats: usize,
-    piece_bins: usize,
-    piece_validators: usize,
-    piece_stakes: usize,
-) -> Refusal
-    ensures { result ≡ lowest (list_length n ∷ size bins ∷ short_buffer seats bins ∷ short_pieces (record { seats = seats; bins = piece_bins; validators = piece_validators; stakes = piece_stakes }) (most_pieces n bins) ∷ []) }
+/// Whether each column has as many places as are needed.
+///
+/// # Errors
+///
+/// `ShortBuffer` where a column is shorter.
+pub fn check_columns(columns: &Columns, needed: usize) -> Result<(), Refusal>
+    ensures { result ≡ first_of (short_pieces (held_of columns.now) needed) }
 {
-    if refusals::bad_list_length(n) {
-        return Refusal::Number(refusals::LIST_LENGTH);
-    }
-    if refusals::bad_size(bins) {
-        return Refusal::Number(refusals::SIZE);
-    }
-    if seats < bins {
-        return Refusal::Number(refusals::SHORT_BUFFER);
-    }
-    if short_pieces(
-        piece_bins,
-        piece_validators,
-        piece_stakes,
-        most_pieces(n, bins),
-    ) {
-        return Refusal::Number(refusals::SHORT_BUFFER);
-    }
-    Refusal::None
+    check_room(columns.bins.len(), needed)?;
+    check_room(columns.validators.len(), needed)?;
+    check_room(columns.stakes.len(), needed)
 }
 
-// The capacity of bins: the sum over their number, rounded up.
-pub fn capacity_of(sum: u64, bins: usize) -> u64
-    requires sum_nonzero { 0 < sum }
-    requires bins_nonzero { 0 < bins }
-    ensures { result ≡ capacity sum bins }
+/// Bins for a sum, of which none would be empty. An entry with no bin never asks.
+///
+/// # Errors
+///
+/// `EmptyBin` where the bins before the last would hold the whole sum.
+pub fn check_bins(sum: u64, number: usize) -> Result<Bins, Refusal>
+    requires { 0 < number }
+    ensures fillable { IfOk result (Fillable sum) }
+    ensures checked { result
+        ≡ unless (first_of (empty_bin (capacity sum number) sum number ∷ [])) (Ok (record { number = number; capacity = capacity sum number; sum = sum })) }
 {
-    (sum - 1) / (bins as u64) + 1
+    let capacity = sum.div_ceil(number as u64);
+    if (number - 1) as u128 * capacity as u128 >= sum as u128 {
+        return Err(Refusal::EmptyBin);
+    }
+    Ok(Bins {
+        number,
+        capacity,
+        sum,
+    })
 }

@@ -1,177 +1,158 @@
-// A partition by a call that is not turned down by its sizes and sum.
-ghost use Rattle.std.specs.Prelude.{◌≤◌, ◌≡◌, length, drop};
-ghost use Rattle.words.specs.Outcome.{buffer_after};
-ghost use Rattle.partition.specs.Seats.{parted, seat_ids, piece_bins_of, piece_validators_of, piece_stakes_of};
-ghost use Rattle.partition.specs.Bins.{Partable};
-ghost use Rattle.partition.specs.Answers.{partition_answer};
+ghost use Rattle.std.specs.Prelude.{◌≡◌, ◌+◌, ◌≤◌, length, sum};
+ghost use Rattle.partition.specs.Partition.{held_of, over_bins, or_no_word, Fillable};
+ghost use Rattle.partition.specs.Calls.{told, sample_quorum};
+ghost use Rattle.fill.specs.Columns.{HaveRoom, SameLoans};
 
-use crate::answers::PartitionAnswer;
-use crate::seats;
+use crate::bins::draw_bins;
+use crate::checks::{Bins, check_bins, check_columns, most_pieces};
+use fill::Columns;
+use refusals::{Refusal, check_list_length, check_room, check_size, check_sum};
+use words::WordSource;
 
-// A partition into as many bins as drawn has places. The seats are stored once all are drawn.
-fn store_quorum(
-    stakes: &[u64],
-    sum: u64,
-    first: &[u64],
-    first_cursor: usize,
-    second: &[u64],
-    second_cursor: usize,
-    order: &mut [u64],
-    drawn: &mut [u64],
-    seats: &mut [u64],
-    piece_bins: &mut [u64],
-    piece_validators: &mut [u64],
-    piece_stakes: &mut [u64],
-) -> PartitionAnswer
-    requires partable { Partable stakes.now sum (length drawn.old) (length piece_bins.old) (length piece_validators.old) (length piece_stakes.old) }
-    requires order_len { length order.old ≡ length stakes.now }
-    requires seats_room { length drawn.old ≤ length seats.old }
-    ensures value { result ≡ partition_answer (drop first_cursor first.now) (drop second_cursor second.now) (parted stakes.now sum (length drawn.old) (drop first_cursor first.now) (drop second_cursor second.now)) }
-    ensures seats_after { seats.new ≡ buffer_after (parted stakes.now sum (length drawn.old) (drop first_cursor first.now) (drop second_cursor second.now)) seat_ids seats.old }
-    ensures piece_bins_after { piece_bins.new ≡ buffer_after (parted stakes.now sum (length drawn.old) (drop first_cursor first.now) (drop second_cursor second.now)) piece_bins_of piece_bins.old }
-    ensures piece_validators_after { piece_validators.new ≡ buffer_after (parted stakes.now sum (length drawn.old) (drop first_cursor first.now) (drop second_cursor second.now)) piece_validators_of piece_validators.old }
-    ensures piece_stakes_after { piece_stakes.new ≡ buffer_after (parted stakes.now sum (length drawn.old) (drop first_cursor first.now) (drop second_cursor second.now)) piece_stakes_of piece_stakes.old }
-{
-    match seats::draw_parted(
-        stakes,
-        sum,
-        first,
-        first_cursor,
-        second,
-        second_cursor,
-        order,
-        drawn,
-        piece_bins,
-        piece_validators,
-        piece_stakes,
-    ) {
-        PartitionAnswer::Accepted(partition) => {
-            buffers::store(drawn, seats);
-            PartitionAnswer::Accepted(partition)
+/// A partition, whose seats and pieces stand in what was lent: how many pieces there are, and how many words of each source were read.
+#[derive(Clone, Copy, Debug, PartialEq, Eq)]
+pub struct Partition {
+    pub pieces: usize,
+    pub first_words_read: usize,
+    pub second_words_read: usize,
+}
+
+/// A sampler that partitions the stakes into bins, and picks one validator from each.
+#[derive(Clone, Copy, Debug, PartialEq, Eq)]
+pub struct PartitionSampler {
+    num_bins: usize,
+}
+
+impl PartitionSampler {
+    /// A sampler with so many bins.
+    pub fn new(num_bins: usize) -> Self
+        ensures { result ≡ record { num_bins = num_bins } }
+    {
+        Self { num_bins }
+    }
+
+    /// How many seats a call fills: the number of bins.
+    pub fn quorum_size(self) -> usize
+        ensures { result ≡ self.num_bins }
+    {
+        self.num_bins
+    }
+
+    /// One seat from each bin. The list is shuffled by the first words, and the seats are drawn by the second. The seats, and the pieces in
+    /// fill order, are written to the front of what is lent; it keeps what it held where the call is turned down.
+    ///
+    /// # Errors
+    ///
+    /// The first that applies: the list is empty or too long, there are too many bins, the seats or a column are too short for `n` stakes in
+    /// `b` bins (`b` seats, `n + b` pieces), the stakes sum past 64 bits or to 0, a bin would be empty, a word is missing.
+    pub fn sample_quorum<A: WordSource + Drop, B: WordSource + Drop>(
+        self,
+        stakes: &[u64],
+        first: A,
+        second: B,
+        seats: &mut [u64],
+        columns: &mut Columns,
+    ) -> Result<Partition, Refusal>
+        ensures sampled { (result, (seats.new, held_of columns.new))
+            ≡ sample_quorum self stakes.now (seats.old, held_of columns.old) (A.words first) (B.words second) }
+        ensures same { SameLoans columns.old columns.new }
+    {
+        let (mut first, mut second) = (first, second);
+        let (n, b) = (stakes.len(), self.num_bins);
+        check_list_length(n)?;
+        check_size(b)?;
+        check_room(seats.len(), b)?;
+        check_columns(columns, most_pieces(n, b))?;
+        let sum = check_sum(stakes)?;
+        if b == 0 {
+            return Ok(Partition {
+                pieces: 0,
+                first_words_read: 0,
+                second_words_read: 0,
+            });
         }
-        PartitionAnswer::Refused(n) => PartitionAnswer::Refused(n),
+        let bins = check_bins(sum, b)?;
+        if n <= 64 && b <= 64 {
+            in_scratch::<A, B, 64, 64>(stakes, bins, &mut first, &mut second, seats, columns)
+        } else if n <= 1024 {
+            in_scratch::<A, B, 1024, 1024>(stakes, bins, &mut first, &mut second, seats, columns)
+        } else {
+            in_scratch::<A, B, 4096, 1024>(stakes, bins, &mut first, &mut second, seats, columns)
+        }
     }
 }
 
-// A partition with scratch space for the order and for the seats while they are drawn.
-fn quorum_in_scratch(
+// In scratch space for up to N stakes and K seats, since zeroing what is not needed costs time. That N and K are small is asked, as no
+// type says it.
+fn in_scratch<A: WordSource, B: WordSource, const N: usize, const K: usize>(
     stakes: &[u64],
-    sum: u64,
-    bins: usize,
-    first: &[u64],
-    first_cursor: usize,
-    second: &[u64],
-    second_cursor: usize,
-    order: &mut [u64],
-    drawn: &mut [u64],
+    bins: Bins,
+    first: &mut A,
+    second: &mut B,
     seats: &mut [u64],
-    piece_bins: &mut [u64],
-    piece_validators: &mut [u64],
-    piece_stakes: &mut [u64],
-) -> PartitionAnswer
-    requires partable { Partable stakes.now sum bins (length piece_bins.old) (length piece_validators.old) (length piece_stakes.old) }
-    requires order_room { length stakes.now ≤ length order.old }
-    requires drawn_room { bins ≤ length drawn.old }
-    requires seats_room { bins ≤ length seats.old }
-    ensures value { result ≡ partition_answer (drop first_cursor first.now) (drop second_cursor second.now) (parted stakes.now sum bins (drop first_cursor first.now) (drop second_cursor second.now)) }
-    ensures seats_after { seats.new ≡ buffer_after (parted stakes.now sum bins (drop first_cursor first.now) (drop second_cursor second.now)) seat_ids seats.old }
-    ensures piece_bins_after { piece_bins.new ≡ buffer_after (parted stakes.now sum bins (drop first_cursor first.now) (drop second_cursor second.now)) piece_bins_of piece_bins.old }
-    ensures piece_validators_after { piece_validators.new ≡ buffer_after (parted stakes.now sum bins (drop first_cursor first.now) (drop second_cursor second.now)) piece_validators_of piece_validators.old }
-    ensures piece_stakes_after { piece_stakes.new ≡ buffer_after (parted stakes.now sum bins (drop first_cursor first.now) (drop second_cursor second.now)) piece_stakes_of piece_stakes.old }
+    columns: &mut Columns,
+) -> Result<Partition, Refusal>
+    requires small { (N ≤ 4096) × (K ≤ 1024) }
+    requires stakes { length stakes.now ≤ N }
+    requires drawn { bins.number ≤ K }
+    requires fillable { Fillable (sum stakes.now) bins }
+    requires seats { bins.number ≤ length seats.old }
+    requires room { HaveRoom columns.old (length stakes.now + bins.number) }
+    ensures told { (result, (seats.new, held_of columns.new))
+        ≡ told (seats.old, held_of columns.old) (A.words first.old) (B.words second.old)
+        (or_no_word (over_bins stakes.now bins.capacity bins.number (A.words first.old) (B.words second.old))) }
+    ensures same { SameLoans columns.old columns.new }
 {
-    let n = stakes.len();
-    store_quorum(
-        stakes,
-        sum,
-        first,
-        first_cursor,
-        second,
-        second_cursor,
-        &mut order[..n],
-        &mut drawn[..bins],
-        seats,
-        piece_bins,
-        piece_validators,
-        piece_stakes,
-    )
+    let mut order = [0; N];
+    let mut drawn = [0; K];
+    let order = &mut order[..stakes.len()];
+    let drawn = &mut drawn[..bins.number];
+    let (first_left, second_left) = (first.words_left(), second.words_left());
+    let pieces = draw_bins(stakes, bins, first, second, order, drawn, columns).ok_or(
+        Refusal::NoWordLeft,
+    )?;
+    seats[..bins.number].copy_from_slice(drawn);
+    Ok(Partition {
+        pieces,
+        first_words_read: first_left.saturating_sub(first.words_left()),
+        second_words_read: second_left.saturating_sub(second.words_left()),
+    })
 }
 
-// A partition, in scratch space that is chosen by the sizes, since zeroing what is not needed costs time.
-pub fn draw_quorum(
-    stakes: &[u64],
-    sum: u64,
-    bins: usize,
-    first: &[u64],
-    first_cursor: usize,
-    second: &[u64],
-    second_cursor: usize,
-    seats: &mut [u64],
-    piece_bins: &mut [u64],
-    piece_validators: &mut [u64],
-    piece_stakes: &mut [u64],
-) -> PartitionAnswer
-    requires partable { Partable stakes.now sum bins (length piece_bins.old) (length piece_validators.old) (length piece_stakes.old) }
-    requires stakes_len_bound { length stakes.now ≤ 4096 }
-    requires seats_room { bins ≤ length seats.old }
-    ensures value { result ≡ partition_answer (drop first_cursor first.now) (drop second_cursor second.now) (parted stakes.now sum bins (drop first_cursor first.now) (drop second_cursor second.now)) }
-    ensures seats_after { seats.new ≡ buffer_after (parted stakes.now sum bins (drop first_cursor first.now) (drop second_cursor second.now)) seat_ids seats.old }
-    ensures piece_bins_after { piece_bins.new ≡ buffer_after (parted stakes.now sum bins (drop first_cursor first.now) (drop second_cursor second.now)) piece_bins_of piece_bins.old }
-    ensures piece_validators_after { piece_validators.new ≡ buffer_after (parted stakes.now sum bins (drop first_cursor first.now) (drop second_cursor second.now)) piece_validators_of piece_validators.old }
-    ensures piece_stakes_after { piece_stakes.new ≡ buffer_after (parted stakes.now sum bins (drop first_cursor first.now) (drop second_cursor second.now)) piece_stakes_of piece_stakes.old }
-{
-    let n = stakes.len();
-    if n <= 64 && bins <= 64 {
-        let mut order = [0u64; 64];
-        let mut drawn = [0u64; 64];
-        return quorum_in_scratch(
-            stakes,
-            sum,
-            bins,
-            first,
-            first_cursor,
-            second,
-            second_cursor,
-            &mut order,
-            &mut drawn,
-            seats,
-            piece_bins,
-            piece_validators,
-            piece_stakes,
+#[cfg(test)]
+mod tests {
+    use super::*;
+    use words::ListWords;
+
+    #[test]
+    fn bins_are_filled_in_the_shuffled_order(rt: HostRuntime) {
+        let mut seats = [7; 3];
+        let mut bins = [7; 6];
+        let mut validators = [7; 6];
+        let mut stakes = [7; 6];
+        let mut columns = Columns {
+            bins: &mut bins,
+            validators: &mut validators,
+            stakes: &mut stakes,
+        };
+        let answer = PartitionSampler::new(2).sample_quorum(
+            &[3, 1, 2],
+            ListWords::new(&[0, 2], 0),
+            ListWords::new(&[2, 1, 9], 0),
+            &mut seats,
+            &mut columns,
         );
-    }
-    let mut drawn = [0u64; 1024];
-    if n <= 1024 {
-        let mut order = [0u64; 1024];
-        return quorum_in_scratch(
-            stakes,
-            sum,
-            bins,
-            first,
-            first_cursor,
-            second,
-            second_cursor,
-            &mut order,
-            &mut drawn,
-            seats,
-            piece_bins,
-            piece_validators,
-            piece_stakes,
+        assert_eq!(rt;
+            answer,
+            Ok(Partition {
+                pieces: 4,
+                first_words_read: 2,
+                second_words_read: 2
+            })
         );
+        assert_eq!(rt; seats, [0, 2, 7]);
+        assert_eq!(rt; bins, [0, 0, 1, 1, 7, 7]);
+        assert_eq!(rt; validators, [1, 0, 0, 2, 7, 7]);
+        assert_eq!(rt; stakes, [1, 2, 1, 2, 7, 7]);
     }
-    let mut order = [0u64; 4096];
-    quorum_in_scratch(
-        stakes,
-        sum,
-        bins,
-        first,
-        first_cursor,
-        second,
-        second_cursor,
-        &mut order,
-        &mut drawn,
-        seats,
-        piece_bins,
-        piece_validators,
-        piece_stakes,
-    )
 }

@@ -1,3 +1,3 @@
+pub mod KeptLaws
 pub mod Committees
-pub mod Views
-pub mod Examples
+mod Examples

@@ -1,2 +1,1 @@
 pub mod Committees
-pub mod Views

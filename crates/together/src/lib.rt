@@ -1,2 +1,6 @@
-// What holds of all answers together: no code, the statements stand in specs/, the theorems in proofs/.
+//! What is promised of every committee of FA1 over bins.
 #![tactic(auto)]
+
+mod theorems;
+
+pub use theorems::committees_are_fair;

@@ -1,140 +1,140 @@
-// The Turbine tree from one validator's perspective.
-ghost use Rattle.std.specs.Prelude.{◌≤◌, ◌<◌, min, ◌≡◌, ◌++◌, length, take, drop};
-ghost use Rattle.words.specs.Outcome.{buffer_after};
-ghost use Rattle.tree.specs.Sizes.{sizes};
-ghost use Rattle.weighted_shuffle.specs.Calls.{nodes_after};
+ghost use Rattle.std.specs.Prelude.{◌≡◌, ◌≤◌, ◌<◌, min, length, take};
 ghost use Rattle.turbine.specs.View.{neighborhood};
-ghost use Rattle.turbine.specs.Calls.{view_call};
-ghost use Rattle.turbine.specs.Answers.{tree_of, view_answer, answer_by, children_by};
+ghost use Rattle.turbine.specs.Calls.{tree_of, written, turbine_tree};
 
-use crate::answers::{Parent, View, ViewAnswer};
-use crate::{checks, neighborhood};
-use nodes::node::Node;
+use crate::neighborhood::{parent_at, position_of, write_children};
+use refusals::{Refusal, check_below, check_fanout, check_list_length, check_room};
+use tree::{Node, get_num_nodes_and_tree_size};
 use types::ValidatorIndex;
-use weighted_shuffle::answers::ShuffleAnswer;
-use weighted_shuffle::shuffle;
+use weighted_shuffle::shuffle_into;
+use words::WordSource;
 
-// Default fanout for the Turbine tree.
+/// Default fanout for the Turbine tree.
 pub const DEFAULT_FANOUT: usize = 200;
 
-// View of the Turbine tree from a specific validator's perspective. The children stand in the buffer that was lent for them.
-#[derive(Clone, Copy, Drop)]
+/// View of the Turbine tree from a specific validator's perspective. The children stand in the buffer that was lent for them.
+#[derive(Clone, Copy, Debug, PartialEq, Eq)]
 pub struct TurbineTree {
     root: ValidatorIndex,
-    parent: Parent,
+    parent: Option<ValidatorIndex>,
     children: usize,
 }
 
+/// A view, and how many words its order took.
+#[derive(Clone, Copy, Debug, PartialEq, Eq)]
+pub struct View {
+    pub tree: TurbineTree,
+    pub words_read: usize,
+}
+
 impl TurbineTree {
-    // Generates the view of the validator `own_id`, by the words from the cursor on. The whole order is left at the front of `order`, the
-    // children at the front of `children`, and the nodes of the tree are zeros.
-    pub fn new(
+    /// Generates the view of the validator `own_id` in a tree in which each validator has at most `fanout` children, by the words of the
+    /// source. Stakes are in any unit, and one that would take the sum past 64 bits counts as 0.
+    ///
+    /// The whole order is left at the front of `order`, which has a place for each validator, the children at the front of `children`,
+    /// which has the smaller of `fanout` and their number, and the sums of the `tree_size` nodes of the tree are 0.
+    ///
+    /// # Errors
+    ///
+    /// In this order: `ListLength`, `Fanout`, `NotBelow` for an id that no validator has, `ShortBuffer` and `NoWordLeft`. What is lent
+    /// then holds what it held.
+    pub fn new<W: WordSource + Drop>(
         stakes: &[u64],
         fanout: usize,
         own_id: ValidatorIndex,
-        list: &[u64],
-        cursor: usize,
+        words: W,
         order: &mut [u64],
         nodes: &mut [Node],
         children: &mut [u64],
-    ) -> ViewAnswer
-        ensures value { result ≡ view_answer (drop cursor list.now) (view_call stakes.now fanout own_id.0 list.now cursor order.old nodes.old children.old) }
-        ensures order_after { order.new ≡ buffer_after (view_call stakes.now fanout own_id.0 list.now cursor order.old nodes.old children.old) (λ v. v.order) order.old }
-        ensures nodes_after { nodes.new ≡ nodes_after (view_call stakes.now fanout own_id.0 list.now cursor order.old nodes.old children.old) (sizes (length stakes.now)).tree_size nodes.old }
-        ensures children_after { children.new ≡ buffer_after (view_call stakes.now fanout own_id.0 list.now cursor order.old nodes.old children.old) (λ v. v.children) children.old }
+    ) -> Result<View, Refusal>
+        ensures { (result, order.new, nodes.new, children.new)
+            ≡ turbine_tree stakes.now fanout own_id (order.old, nodes.old, children.old) (W.words words) }
     {
-        let refusal = checks::view_refusal(
-            stakes.len(),
-            fanout,
-            own_id,
-            order.len(),
-            nodes.len(),
-            children.len(),
-        );
-        if refusal != 0 {
-            return ViewAnswer::Refused(refusal);
-        }
-        let shuffled = shuffle::shuffle(stakes, list, cursor, order, nodes);
-        view_of(shuffled, order, stakes.len(), fanout, own_id, children)
+        let mut words = words;
+        let n = stakes.len();
+        check_list_length(n)?;
+        check_fanout(fanout)?;
+        check_below(own_id.inner(), n)?;
+        check_room(order.len(), n)?;
+        check_room(nodes.len(), get_num_nodes_and_tree_size(n).tree_size)?;
+        check_room(children.len(), fanout.min(n))?;
+        let words_read = shuffle_into(stakes, &mut words, order, nodes)?.words_read;
+        let tree = TurbineTree::of_order(&order[..n], fanout, own_id, children);
+        Ok(View { tree, words_read })
     }
 
-    // Gives the root validator of this Turbine tree.
-    pub fn get_root(self) -> ValidatorIndex
-        ensures { result ≡ self.root }
+    // The view that a validator has of an order. Its children are written to the front of the lent buffer.
+    fn of_order(order: &[u64], fanout: usize, own_id: ValidatorIndex, children: &mut [u64]) -> Self
+        requires order { (0 < length order.now) × (length order.now ≤ 4096) }
+        requires fanout { (0 < fanout) × (fanout ≤ 4096) }
+        requires room { min fanout (length order.now) ≤ length children.old }
+        ensures tree { result ≡ tree_of (neighborhood fanout own_id order.now) }
+        ensures after { children.new ≡ written (neighborhood fanout own_id order.now).children children.old }
+    {
+        let p = position_of(order, own_id.inner());
+        TurbineTree {
+            root: ValidatorIndex::new(order[0]),
+            parent: parent_at(order, p, fanout),
+            children: write_children(order, p, fanout, children),
+        }
+    }
+
+    /// Gives the root validator of this Turbine tree.
+    pub fn get_root(&self) -> ValidatorIndex
+        ensures { result ≡ self.now.root }
     {
         self.root
     }
 
-    // Gives the parent of this validator in the Turbine tree, `None` for the root.
-    pub fn get_parent(self) -> Parent
-        ensures { result ≡ self.parent }
+    /// Gives the parent of this validator in the Turbine tree, `None` for the root.
+    pub fn get_parent(&self) -> Option<ValidatorIndex>
+        ensures { result ≡ self.now.parent }
     {
         self.parent
     }
 
-    // Gives how many children this validator has.
-    pub fn num_children(self) -> usize
-        ensures { result ≡ self.children }
+    /// Gives how many children this validator has.
+    pub fn num_children(&self) -> usize
+        ensures { result ≡ self.now.children }
     {
         self.children
     }
 
-    // Gives the list of children of this validator: that part of the buffer that was lent for them. Of a shorter buffer it is the whole.
-    pub fn get_children(self, children: &[u64]) -> &[u64]
-        ensures { result.now ≡ take self.children children.now }
+    /// Gives the list of children of this validator: that part of the buffer that was lent for them. Of a shorter buffer it is the whole.
+    pub fn get_children<'a>(&self, children: &'a [u64]) -> &'a [u64]
+        ensures { result.now ≡ take self.now.children children.now }
     {
-        let count = self.children;
-        if children.len() < count {
-            return children;
-        }
-        &children[..count]
+        children.get(..self.children).unwrap_or(children)
     }
 }
 
-// The tree of one validator, whose children are stored.
-fn tree_of(
-    order: &[u64],
-    fanout: usize,
-    own_id: ValidatorIndex,
-    children: &mut [u64],
-) -> TurbineTree
-    requires order_len_range { (0 < length order.now) × (length order.now ≤ 4096) }
-    requires fanout_range { (0 < fanout) × (fanout ≤ 4096) }
-    requires children_room { min fanout (length order.now) ≤ length children.old }
-    ensures value { result ≡ tree_of (neighborhood fanout own_id.0 order.now) }
-    ensures children_after { children.new ≡ (neighborhood fanout own_id.0 order.now).children ++ drop (length (neighborhood fanout own_id.0 order.now).children) children.old }
-{
-    let p = neighborhood::position_of(order, own_id.inner());
-    let parent = neighborhood::parent_at(order, p, fanout);
-    let count = neighborhood::store_children(order, p, fanout, children);
-    TurbineTree {
-        root: ValidatorIndex::new(order[0]),
-        parent,
-        children: count,
-    }
-}
+#[cfg(test)]
+mod tests {
+    use super::*;
+    use words::ListWords;
 
-// The view of one validator among n, where the shuffle answered so and the order stands in the first n places.
-pub fn view_of(
-    shuffled: ShuffleAnswer,
-    order: &[u64],
-    n: usize,
-    fanout: usize,
-    own_id: ValidatorIndex,
-    children: &mut [u64],
-) -> ViewAnswer
-    requires n_range { (0 < n) × ((n ≤ 4096) × (n ≤ length order.now)) }
-    requires fanout_range { (0 < fanout) × (fanout ≤ 4096) }
-    requires children_room { min fanout n ≤ length children.old }
-    ensures value { result ≡ answer_by shuffled (neighborhood fanout own_id.0 (take n order.now)) }
-    ensures children_after { children.new ≡ children_by shuffled (neighborhood fanout own_id.0 (take n order.now)) children.old }
-{
-    match shuffled {
-        ShuffleAnswer::Accepted(o) => {
-            let words_read = o.words_read;
-            let tree = tree_of(&order[..n], fanout, own_id, children);
-            ViewAnswer::Accepted(View { tree, words_read })
-        }
-        ShuffleAnswer::Refused(number) => ViewAnswer::Refused(number),
+    #[test]
+    fn the_root_has_two_children(rt: HostRuntime) {
+        let mut order = [9; 4];
+        let mut nodes = [Node { sums: [7; 16] }; 1];
+        let mut children = [9; 3];
+        let view = TurbineTree::new(
+            &[2, 0, 3],
+            2,
+            ValidatorIndex::new(2),
+            ListWords::new(&[4, 1, 0], 0),
+            &mut order,
+            &mut nodes,
+            &mut children,
+        );
+        let View { tree, words_read } = view.expect(&rt, "an accepted call");
+        assert_eq!(rt; words_read, 3);
+        assert_eq!(rt; tree.get_root(), ValidatorIndex::new(2));
+        assert_eq!(rt; tree.get_parent(), None);
+        assert_eq!(rt; tree.num_children(), 2);
+        assert_eq!(rt; tree.get_children(&children), [0, 1].as_slice());
+        assert_eq!(rt; order, [2, 0, 1, 9]);
+        assert_eq!(rt; nodes[0].sums, [0; 16]);
+        assert_eq!(rt; children, [0, 1, 9]);
     }
 }

@@ -1,4 +1,3 @@
 pub mod Decimal
-pub mod Ordering
 pub mod Stake
 pub mod Examples

@@ -1,56 +1,54 @@
-// The type `ValidatorIndex`.
-ghost use Rattle.std.specs.Prelude.{◌≡◌, ◌==◌};
-ghost use Rattle.types.specs.Decimal.{digits, formatted, buffer_after};
-ghost use Rattle.types.specs.Ordering.{compare};
+ghost use Rattle.std.specs.Prelude.{◌≡◌};
 
-use crate::decimal::{Formatted, write_decimal};
-use crate::ordering::{Ordering, compare};
+use std::fmt;
+use std::marker::Model;
 
-// Index of a validator in an epoch's list of validators.
-#[derive(Clone, Copy, Drop)]
+/// Index of a validator in an epoch's list of validators. A type of its own beside `Stake`, as in the original: neither takes the other's
+/// methods, and the two can't be mixed up.
+#[derive(Clone, Copy, Debug, Default, PartialEq, Eq, PartialOrd, Ord, Hash)]
 pub struct ValidatorIndex(u64);
 
+impl Model for ValidatorIndex {
+    ghost use Rattle.std.specs.Prelude.{ℕ};
+
+    ghost Value = { ℕ };
+
+    ghost view = { λ i. i.0 };
+
+    ghost inverse = { λ n. record { 0 = n } };
+}
+
 impl ValidatorIndex {
-    // Creates a new validator index.
-    pub fn new(index: u64) -> Self
-        ensures { result.0 ≡ index }
+    /// Creates a new validator index.
+    pub const fn new(index: u64) -> Self
+        ensures { result ≡ index }
     {
         Self(index)
     }
 
-    // The inner u64.
-    pub fn inner(self) -> u64
-        ensures { result ≡ self.0 }
+    /// The inner u64.
+    pub const fn inner(self) -> u64
+        ensures { result ≡ self }
     {
         self.0
     }
 
-    // The index as a usize, for use as an array index.
+    /// The index as a usize, for use as an array index.
     pub fn as_usize(self) -> usize
-        ensures { result ≡ self.0 }
+        ensures { result ≡ self }
     {
         self.0 as usize
     }
+}
 
-    // Whether two indexes are equal.
-    pub fn eq(self, other: Self) -> bool
-        ensures { result ≡ (self.0 == other.0) }
-    {
-        self.0 == other.0
-    }
+impl fmt::Display for ValidatorIndex {
+    ghost use Rattle.std.specs.Prelude.{Some};
+    ghost use Rattle.std.specs.Fmt.{decimal};
 
-    // How the index stands to another.
-    pub fn cmp(self, other: Self) -> Ordering
-        ensures { result ≡ compare self.0 other.0 }
-    {
-        compare(self.0, other.0)
-    }
+    ghost output = { λ i. Some (decimal i) };
 
-    // Writes the decimal digits to the front of the buffer: `Display`.
-    pub fn fmt(self, buffer: &mut [u8]) -> Formatted
-        ensures value { result ≡ formatted (digits self.0) buffer.old }
-        ensures buffer_after { buffer.new ≡ buffer_after (digits self.0) buffer.old }
-    {
-        write_decimal(self.0, buffer)
+    fn fmt<W: fmt::Write>(&self, f: &mut fmt::Formatter<W>) -> fmt::Result {
+        let index = self.0;
+        write!(f, "{index}")
     }
 }

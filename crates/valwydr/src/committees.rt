@@ -1,21 +1,18 @@
-// `PartitionSampler` and `FaitAccompli1Sampler`.
 ghost use Rattle.std.specs.Prelude.{◌≡◌, [], drop};
-ghost use Rattle.words.specs.Outcome.{buffer_after};
-ghost use Rattle.partition.specs.Seats as parted;
+ghost use Rattle.partition.specs.Calls.{Lent};
 ghost use Rattle.partition.specs.Calls as partition;
-ghost use Rattle.partition.specs.Answers.{partition_answer};
-ghost use Rattle.fait_accompli.specs.declared.sampler.Fallback.TheVariants.{Bins, Draws};
-ghost use Rattle.fait_accompli.specs.Seats.{seats_of};
+ghost use Rattle.fait_accompli.specs.declared.quorum.Fallback.TheVariants.{Bins, Draws};
 ghost use Rattle.fait_accompli.specs.Calls as committee;
-ghost use Rattle.fait_accompli.specs.Answers.{committee_answer, piece_bins_of, piece_validators_of, piece_stakes_of};
-ghost use Rattle.answers.specs.Told.{result_code, array, partition_told, committee_told};
-ghost use Rattle.valwydr.specs.Lent.{lent};
+ghost use Rattle.valwydr.specs.Told.{partition_told, committee_values, committee_told, without_columns};
 
-use fait_accompli::FaitAccompli1Sampler;
+use fait_accompli::{Committee, FaitAccompli1Sampler};
+use fill::Columns;
 use partition::PartitionSampler;
+use words::ListWords;
 
-// One seat from each bin, written to the front of seats; the pieces in fill order are written to the front of the columns. The answer:
-// the number of pieces, the words read of each list.
+/// One seat from each bin, written to the front of `seats`; the pieces in fill order are written to the front of the columns. The answer:
+/// the number of pieces, the words read of each list.
+// Over seven parameters: C passes each slice and each cursor by itself.
 #[unsafe(no_mangle)]
 pub extern "C" fn valwydr_partition_sample_quorum(
     num_bins: usize,
@@ -30,32 +27,47 @@ pub extern "C" fn valwydr_partition_sample_quorum(
     piece_stakes: &mut [u64],
     answer: &mut [u64; 3],
 ) -> u64
-    ensures value { result ≡ result_code (partition_told (partition_answer (drop first_cursor first.now) (drop second_cursor second.now) (partition.quorum stakes.now num_bins (lent seats.old piece_bins.old piece_validators.old piece_stakes.old) (drop first_cursor first.now) (drop second_cursor second.now)))) }
-    ensures seats_after { seats.new ≡ buffer_after (partition.quorum stakes.now num_bins (lent seats.old piece_bins.old piece_validators.old piece_stakes.old) (drop first_cursor first.now) (drop second_cursor second.now)) parted.seat_ids seats.old }
-    ensures piece_bins_after { piece_bins.new ≡ buffer_after (partition.quorum stakes.now num_bins (lent seats.old piece_bins.old piece_validators.old piece_stakes.old) (drop first_cursor first.now) (drop second_cursor second.now)) parted.piece_bins_of piece_bins.old }
-    ensures piece_validators_after { piece_validators.new ≡ buffer_after (partition.quorum stakes.now num_bins (lent seats.old piece_bins.old piece_validators.old piece_stakes.old) (drop first_cursor first.now) (drop second_cursor second.now)) parted.piece_validators_of piece_validators.old }
-    ensures piece_stakes_after { piece_stakes.new ≡ buffer_after (partition.quorum stakes.now num_bins (lent seats.old piece_bins.old piece_validators.old piece_stakes.old) (drop first_cursor first.now) (drop second_cursor second.now)) parted.piece_stakes_of piece_stakes.old }
-    ensures answer_after { answer.new ≡ array (partition_told (partition_answer (drop first_cursor first.now) (drop second_cursor second.now) (partition.quorum stakes.now num_bins (lent seats.old piece_bins.old piece_validators.old piece_stakes.old) (drop first_cursor first.now) (drop second_cursor second.now)))) answer.old }
+    ensures { let lent : Lent = (seats.old, (piece_bins.old, piece_validators.old, piece_stakes.old)) in
+        (result, answer.new, (seats.new, (piece_bins.new, piece_validators.new, piece_stakes.new)))
+        ≡ partition_told answer.old
+        (partition.sample_quorum (record { num_bins = num_bins }) stakes.now lent (drop first_cursor first.now) (drop second_cursor second.now)) }
 {
+    let mut columns = Columns {
+        bins: piece_bins,
+        validators: piece_validators,
+        stakes: piece_stakes,
+    };
+    let first = ListWords::new(first, first_cursor);
+    let second = ListWords::new(second, second_cursor);
     let sampler = PartitionSampler::new(num_bins);
-    answers::tell_partition(
-        sampler.sample_quorum(
-            stakes,
-            first,
-            first_cursor,
-            second,
-            second_cursor,
-            seats,
-            piece_bins,
-            piece_validators,
-            piece_stakes,
-        ),
-        answer,
-    )
+    match sampler.sample_quorum(stakes, first, second, seats, &mut columns) {
+        Ok(partition) => {
+            *answer = [
+                partition.pieces as u64,
+                partition.first_words_read as u64,
+                partition.second_words_read as u64,
+            ];
+            0
+        }
+        Err(refusal) => refusal.number(),
+    }
 }
 
-// A committee of k: the fixed seats, then those from bins, with the pieces in their columns. The answer: how many seats are not fixed,
-// the number of pieces, the words read of each list.
+// What the answer of a committee carries.
+fn committee_values(committee: Committee) -> [u64; 4]
+    ensures { result ≡ committee_values committee }
+{
+    [
+        committee.further as u64,
+        committee.pieces as u64,
+        committee.first_words_read as u64,
+        committee.second_words_read as u64,
+    ]
+}
+
+/// A committee of `k`: the fixed seats, then those from bins, with the pieces in their columns. The answer: how many seats are not fixed,
+/// the number of pieces, the words read of each list.
+// Over seven parameters: C passes each slice and each cursor by itself.
 #[unsafe(no_mangle)]
 pub extern "C" fn valwydr_fait_accompli1_with_partition_fallback(
     k: usize,
@@ -70,32 +82,30 @@ pub extern "C" fn valwydr_fait_accompli1_with_partition_fallback(
     piece_stakes: &mut [u64],
     answer: &mut [u64; 4],
 ) -> u64
-    ensures value { result ≡ result_code (committee_told (committee_answer (drop first_cursor first.now) (drop second_cursor second.now) (committee.quorum (Bins k) stakes.now (lent seats.old piece_bins.old piece_validators.old piece_stakes.old) (drop first_cursor first.now) (drop second_cursor second.now)))) }
-    ensures seats_after { seats.new ≡ buffer_after (committee.quorum (Bins k) stakes.now (lent seats.old piece_bins.old piece_validators.old piece_stakes.old) (drop first_cursor first.now) (drop second_cursor second.now)) seats_of seats.old }
-    ensures piece_bins_after { piece_bins.new ≡ buffer_after (committee.quorum (Bins k) stakes.now (lent seats.old piece_bins.old piece_validators.old piece_stakes.old) (drop first_cursor first.now) (drop second_cursor second.now)) piece_bins_of piece_bins.old }
-    ensures piece_validators_after { piece_validators.new ≡ buffer_after (committee.quorum (Bins k) stakes.now (lent seats.old piece_bins.old piece_validators.old piece_stakes.old) (drop first_cursor first.now) (drop second_cursor second.now)) piece_validators_of piece_validators.old }
-    ensures piece_stakes_after { piece_stakes.new ≡ buffer_after (committee.quorum (Bins k) stakes.now (lent seats.old piece_bins.old piece_validators.old piece_stakes.old) (drop first_cursor first.now) (drop second_cursor second.now)) piece_stakes_of piece_stakes.old }
-    ensures answer_after { answer.new ≡ array (committee_told (committee_answer (drop first_cursor first.now) (drop second_cursor second.now) (committee.quorum (Bins k) stakes.now (lent seats.old piece_bins.old piece_validators.old piece_stakes.old) (drop first_cursor first.now) (drop second_cursor second.now)))) answer.old }
+    ensures { let lent : Lent = (seats.old, (piece_bins.old, piece_validators.old, piece_stakes.old)) in
+        (result, answer.new, (seats.new, (piece_bins.new, piece_validators.new, piece_stakes.new)))
+        ≡ committee_told answer.old
+        (committee.sample_quorum (record { fallback = Bins k }) stakes.now lent (drop first_cursor first.now) (drop second_cursor second.now)) }
 {
+    let mut columns = Columns {
+        bins: piece_bins,
+        validators: piece_validators,
+        stakes: piece_stakes,
+    };
+    let first = ListWords::new(first, first_cursor);
+    let second = ListWords::new(second, second_cursor);
     let sampler = FaitAccompli1Sampler::new_with_partition_fallback(k);
-    answers::tell_committee(
-        sampler.sample_quorum(
-            stakes,
-            first,
-            first_cursor,
-            second,
-            second_cursor,
-            seats,
-            piece_bins,
-            piece_validators,
-            piece_stakes,
-        ),
-        answer,
-    )
+    match sampler.sample_quorum(stakes, first, second, seats, &mut columns) {
+        Ok(committee) => {
+            *answer = committee_values(committee);
+            0
+        }
+        Err(refusal) => refusal.number(),
+    }
 }
 
-// A committee of k: the fixed seats, then plain draws. The answer: how many seats are not fixed, 0 for the pieces, the words read, and 0
-// for a second list.
+/// A committee of `k`: the fixed seats, then plain draws. The answer: how many seats are not fixed, 0 for the pieces, the words read, and 0
+/// for a second list.
 #[unsafe(no_mangle)]
 pub extern "C" fn valwydr_fait_accompli1_with_stake_weighted_fallback(
     k: usize,
@@ -105,27 +115,23 @@ pub extern "C" fn valwydr_fait_accompli1_with_stake_weighted_fallback(
     seats: &mut [u64],
     answer: &mut [u64; 4],
 ) -> u64
-    ensures value { result ≡ result_code (committee_told (committee_answer (drop cursor list.now) [] (committee.quorum (Draws k) stakes.now (lent seats.old [] [] []) (drop cursor list.now) []))) }
-    ensures seats_after { seats.new ≡ buffer_after (committee.quorum (Draws k) stakes.now (lent seats.old [] [] []) (drop cursor list.now) []) seats_of seats.old }
-    ensures answer_after { answer.new ≡ array (committee_told (committee_answer (drop cursor list.now) [] (committee.quorum (Draws k) stakes.now (lent seats.old [] [] []) (drop cursor list.now) []))) answer.old }
+    ensures { (result, answer.new, seats.new)
+        ≡ without_columns
+        (committee_told answer.old (committee.sample_quorum (record { fallback = Draws k }) stakes.now (seats.old, ([], [], [])) (drop cursor list.now) [])) }
 {
-    let none = [0u64; 0];
-    let mut bins = [0u64; 0];
-    let mut validators = [0u64; 0];
-    let mut pieces = [0u64; 0];
+    let mut columns = Columns {
+        bins: &mut [],
+        validators: &mut [],
+        stakes: &mut [],
+    };
+    let words = ListWords::new(list, cursor);
+    let none = ListWords::new(&[], 0);
     let sampler = FaitAccompli1Sampler::new_with_stake_weighted_fallback(k);
-    answers::tell_committee(
-        sampler.sample_quorum(
-            stakes,
-            list,
-            cursor,
-            &none,
-            0,
-            seats,
-            &mut bins,
-            &mut validators,
-            &mut pieces,
-        ),
-        answer,
-    )
+    match sampler.sample_quorum(stakes, words, none, seats, &mut columns) {
+        Ok(committee) => {
+            *answer = committee_values(committee);
+            0
+        }
+        Err(refusal) => refusal.number(),
+    }
 }

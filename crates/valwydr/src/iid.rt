@@ -1,14 +1,11 @@
-// `StakeWeightedSampler` and `IidQuorumSampler`.
-ghost use Rattle.std.specs.Prelude.{◌≡◌, length, drop};
-ghost use Rattle.words.specs.Outcome.{buffer_after};
-ghost use Rattle.draws.specs.Weighted.{ids};
-ghost use Rattle.stake_weighted.specs.Calls.{sample, quorum};
-ghost use Rattle.stake_weighted.specs.Answers.{sample_answer, quorum_answer};
-ghost use Rattle.answers.specs.Told.{result_code, array, sample_told, quorum_told};
+ghost use Rattle.std.specs.Prelude.{◌≡◌, drop};
+ghost use Rattle.stake_weighted.specs.Calls.{sample, sample_quorum};
+ghost use Rattle.valwydr.specs.Told.{sample_told, quorum_told};
 
 use stake_weighted::{IidQuorumSampler, StakeWeightedSampler};
+use words::ListWords;
 
-// One validator. The answer: its id, the words read.
+/// One validator. The answer: its id, the words read.
 #[unsafe(no_mangle)]
 pub extern "C" fn valwydr_stake_weighted_sample(
     stakes: &[u64],
@@ -16,14 +13,19 @@ pub extern "C" fn valwydr_stake_weighted_sample(
     cursor: usize,
     answer: &mut [u64; 2],
 ) -> u64
-    ensures value { result ≡ result_code (sample_told (sample_answer (drop cursor list.now) (sample stakes.now (drop cursor list.now)))) }
-    ensures answer_after { answer.new ≡ array (sample_told (sample_answer (drop cursor list.now) (sample stakes.now (drop cursor list.now)))) answer.old }
+    ensures { (result, answer.new) ≡ sample_told answer.old (sample stakes.now (drop cursor list.now)) }
 {
     let sampler = StakeWeightedSampler::new();
-    answers::tell_sample(sampler.sample(stakes, list, cursor), answer)
+    match sampler.sample(stakes, ListWords::new(list, cursor)) {
+        Ok(sample) => {
+            *answer = [sample.id.inner(), sample.words_read as u64];
+            0
+        }
+        Err(refusal) => refusal.number(),
+    }
 }
 
-// A committee of k, written to the front of seats. The answer: the words read.
+/// A committee of `k`, written to the front of `seats`. The answer: the words read.
 #[unsafe(no_mangle)]
 pub extern "C" fn valwydr_iid_sample_quorum(
     k: usize,
@@ -33,10 +35,15 @@ pub extern "C" fn valwydr_iid_sample_quorum(
     seats: &mut [u64],
     answer: &mut [u64; 1],
 ) -> u64
-    ensures value { result ≡ result_code (quorum_told (quorum_answer (drop cursor list.now) (quorum stakes.now k (length seats.old) (drop cursor list.now)))) }
-    ensures seats_after { seats.new ≡ buffer_after (quorum stakes.now k (length seats.old) (drop cursor list.now)) ids seats.old }
-    ensures answer_after { answer.new ≡ array (quorum_told (quorum_answer (drop cursor list.now) (quorum stakes.now k (length seats.old) (drop cursor list.now)))) answer.old }
+    ensures { (result, answer.new, seats.new)
+        ≡ quorum_told answer.old (sample_quorum k stakes.now seats.old (drop cursor list.now)) }
 {
     let sampler = IidQuorumSampler::new(StakeWeightedSampler::new(), k);
-    answers::tell_quorum(sampler.sample_quorum(stakes, list, cursor, seats), answer)
+    match sampler.sample_quorum(stakes, ListWords::new(list, cursor), seats) {
+        Ok(quorum) => {
+            *answer = [quorum.words_read as u64];
+            0
+        }
+        Err(refusal) => refusal.number(),
+    }
 }

@@ -1,30 +1,28 @@
-// The weighted shuffle and the Turbine view.
-ghost use Rattle.std.specs.Prelude.{◌≡◌, length, drop};
-ghost use Rattle.words.specs.Outcome.{buffer_after};
-ghost use Rattle.tree.specs.Sizes as tree;
-ghost use Rattle.shuffle_steps.specs.Calls.{shuffled};
-ghost use Rattle.shuffle_steps.specs.Answers.{shuffle_answer};
-ghost use Rattle.weighted_shuffle.specs.Calls.{nodes_after};
-ghost use Rattle.turbine.specs.Calls.{view_call};
-ghost use Rattle.turbine.specs.Answers.{view_answer};
-ghost use Rattle.answers.specs.Told.{result_code, array, sizes_told, shuffle_told, view_told};
+ghost use Rattle.std.specs.Prelude.{◌≡◌, drop};
+ghost use Rattle.tree.specs.Sizes.{sizes};
+ghost use Rattle.weighted_shuffle.specs.Entry.{shuffle};
+ghost use Rattle.turbine.specs.Calls.{turbine_tree};
+ghost use Rattle.valwydr.specs.Told.{sizes_told, shuffle_told, view_told};
 
-use nodes::node::Node;
-use tree::sizes;
-use turbine::turbine_tree::TurbineTree;
+use tree::{Node, get_num_nodes_and_tree_size};
+use turbine::TurbineTree;
 use types::ValidatorIndex;
 use weighted_shuffle::shuffle;
+use words::ListWords;
 
-// The nodes of a full tree that could hold so many weights, and those that have children: the answer.
+// What stands for the parent of the root, which has none: C has no `Option`.
+const NO_PARENT: u64 = u64::MAX;
+
+/// The nodes of a full tree that could hold so many weights, and those that have children: the answer.
 #[unsafe(no_mangle)]
 pub extern "C" fn valwydr_get_num_nodes_and_tree_size(count: usize, answer: &mut [u64; 2])
-    ensures { answer.new ≡ sizes_told (tree.sizes count) }
+    ensures { answer.new ≡ sizes_told (sizes count) }
 {
-    let sizes = sizes::get_num_nodes_and_tree_size(count);
+    let sizes = get_num_nodes_and_tree_size(count);
     *answer = [sizes.num_nodes as u64, sizes.tree_size as u64];
 }
 
-// The whole order of a list of weights, written to the front of order; the nodes of the tree are then zeros. The answer: the words read.
+/// The whole order of a list of weights, written to the front of `order`; the nodes of the tree are then zeros. The answer: the words read.
 #[unsafe(no_mangle)]
 pub extern "C" fn valwydr_weighted_shuffle(
     weights: &[u64],
@@ -34,18 +32,21 @@ pub extern "C" fn valwydr_weighted_shuffle(
     nodes: &mut [Node],
     answer: &mut [u64; 1],
 ) -> u64
-    ensures value { result ≡ result_code (shuffle_told (shuffle_answer (drop cursor list.now) (shuffled weights.now (length order.old) (length nodes.old) (drop cursor list.now)))) }
-    ensures order_after { order.new ≡ buffer_after (shuffled weights.now (length order.old) (length nodes.old) (drop cursor list.now)) (λ ps. ps) order.old }
-    ensures nodes_after { nodes.new ≡ nodes_after (shuffled weights.now (length order.old) (length nodes.old) (drop cursor list.now)) (tree.sizes (length weights.now)).tree_size nodes.old }
-    ensures answer_after { answer.new ≡ array (shuffle_told (shuffle_answer (drop cursor list.now) (shuffled weights.now (length order.old) (length nodes.old) (drop cursor list.now)))) answer.old }
+    ensures { (result, answer.new, order.new, nodes.new)
+        ≡ shuffle_told answer.old (shuffle weights.now order.old nodes.old (drop cursor list.now)) }
 {
-    let shuffled = shuffle::shuffle(weights, list, cursor, order, nodes);
-    answers::tell_order(shuffled, answer)
+    match shuffle(weights, ListWords::new(list, cursor), order, nodes) {
+        Ok(order) => {
+            *answer = [order.words_read as u64];
+            0
+        }
+        Err(refusal) => refusal.number(),
+    }
 }
 
-// What the validator `own_id` sees of the Turbine tree: the order and the children are written to the front of their buffers, and the
-// nodes of the tree are then zeros. The answer: the root's id, the parent's or the number that is no id, the number of children, the
-// words read.
+/// What the validator `own_id` sees of the Turbine tree: the order and the children are written to the front of their buffers, and the nodes
+/// of the tree are then zeros. The answer: the root's id, the parent's or the number that is no id, the number of children, the words read.
+// Over seven parameters: C passes each slice and each cursor by itself.
 #[unsafe(no_mangle)]
 pub extern "C" fn valwydr_turbine_tree_new(
     stakes: &[u64],
@@ -58,13 +59,22 @@ pub extern "C" fn valwydr_turbine_tree_new(
     children: &mut [u64],
     answer: &mut [u64; 4],
 ) -> u64
-    ensures value { result ≡ result_code (view_told (view_answer (drop cursor list.now) (view_call stakes.now fanout own_id list.now cursor order.old nodes.old children.old))) }
-    ensures order_after { order.new ≡ buffer_after (view_call stakes.now fanout own_id list.now cursor order.old nodes.old children.old) (λ v. v.order) order.old }
-    ensures nodes_after { nodes.new ≡ nodes_after (view_call stakes.now fanout own_id list.now cursor order.old nodes.old children.old) (tree.sizes (length stakes.now)).tree_size nodes.old }
-    ensures children_after { children.new ≡ buffer_after (view_call stakes.now fanout own_id list.now cursor order.old nodes.old children.old) (λ v. v.children) children.old }
-    ensures answer_after { answer.new ≡ array (view_told (view_answer (drop cursor list.now) (view_call stakes.now fanout own_id list.now cursor order.old nodes.old children.old))) answer.old }
+    ensures { (result, answer.new, order.new, nodes.new, children.new)
+        ≡ view_told answer.old (turbine_tree stakes.now fanout own_id (order.old, nodes.old, children.old) (drop cursor list.now)) }
 {
     let own = ValidatorIndex::new(own_id);
-    let view = TurbineTree::new(stakes, fanout, own, list, cursor, order, nodes, children);
-    answers::tell_view(view, answer)
+    let words = ListWords::new(list, cursor);
+    match TurbineTree::new(stakes, fanout, own, words, order, nodes, children) {
+        Ok(view) => {
+            let tree = view.tree;
+            *answer = [
+                tree.get_root().inner(),
+                tree.get_parent().map_or(NO_PARENT, ValidatorIndex::inner),
+                tree.num_children() as u64,
+                view.words_read as u64,
+            ];
+            0
+        }
+        Err(refusal) => refusal.number(),
+    }
 }

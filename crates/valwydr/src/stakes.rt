@@ -1,73 +1,92 @@
-// Arithmetic on stakes, and decimal digits. Each gives whether there is a result, which is then stored.
-ghost use Rattle.std.specs.Prelude.{◌+◌, ◌*◌, ◌≡◌};
-ghost use Rattle.laws.specs.Sums.{total};
+ghost use Rattle.std.specs.Prelude.{◌+◌, ◌*◌, ◌≡◌, sum};
 ghost use Rattle.types.specs.Stake.{checked, checked_sub, checked_div_ceil};
-ghost use Rattle.types.specs.Decimal.{digits, formatted, buffer_after};
-ghost use Rattle.answers.specs.Stakes.{is_stake, stake_after, is_written, count_after};
+ghost use Rattle.types.specs.Decimal.{write_decimal};
+ghost use Rattle.valwydr.specs.Stored.{stake_told, digits_told};
 
-use types::{Stake, ValidatorIndex};
+use types::{Stake, write_decimal};
 
-// The stake divided by the divisor, rounded up.
+// Whether there is a stake, which is then stored.
+fn store(stake: Option<Stake>, stored: &mut u64) -> bool
+    ensures { (result, stored.new) ≡ stake_told stored.old stake }
+{
+    match stake {
+        Some(stake) => {
+            *stored = stake.inner();
+            true
+        }
+        None => false,
+    }
+}
+
+/// The stake divided by the divisor, rounded up.
 #[unsafe(no_mangle)]
 pub extern "C" fn valwydr_stake_div_ceil(stake: u64, divisor: u64, stored: &mut u64) -> bool
-    ensures value { result ≡ is_stake (checked_div_ceil stake divisor) }
-    ensures stored_after { stored.new ≡ stake_after (checked_div_ceil stake divisor) stored.old }
+    ensures { (result, stored.new) ≡ stake_told stored.old (checked_div_ceil stake divisor) }
 {
-    answers::tell_stake(Stake::new(stake).div_ceil(divisor), stored)
+    store(Stake::new(stake).div_ceil(divisor), stored)
 }
 
+/// The sum of two stakes.
 #[unsafe(no_mangle)]
 pub extern "C" fn valwydr_stake_checked_add(stake: u64, rhs: u64, stored: &mut u64) -> bool
-    ensures value { result ≡ is_stake (checked (stake + rhs)) }
-    ensures stored_after { stored.new ≡ stake_after (checked (stake + rhs)) stored.old }
+    ensures { (result, stored.new) ≡ stake_told stored.old (checked (stake + rhs)) }
 {
-    answers::tell_stake(Stake::new(stake).checked_add(Stake::new(rhs)), stored)
+    store(Stake::new(stake).checked_add(Stake::new(rhs)), stored)
 }
 
+/// The difference of two stakes.
 #[unsafe(no_mangle)]
 pub extern "C" fn valwydr_stake_sub(stake: u64, rhs: u64, stored: &mut u64) -> bool
-    ensures value { result ≡ is_stake (checked_sub stake rhs) }
-    ensures stored_after { stored.new ≡ stake_after (checked_sub stake rhs) stored.old }
+    ensures { (result, stored.new) ≡ stake_told stored.old (checked_sub stake rhs) }
 {
-    answers::tell_stake(Stake::new(stake).sub(Stake::new(rhs)), stored)
+    store(Stake::new(stake).sub(Stake::new(rhs)), stored)
 }
 
+/// The product of a stake and a number.
 #[unsafe(no_mangle)]
 pub extern "C" fn valwydr_stake_mul(stake: u64, rhs: u64, stored: &mut u64) -> bool
-    ensures value { result ≡ is_stake (checked (stake * rhs)) }
-    ensures stored_after { stored.new ≡ stake_after (checked (stake * rhs)) stored.old }
+    ensures { (result, stored.new) ≡ stake_told stored.old (checked (stake * rhs)) }
 {
-    answers::tell_stake(Stake::new(stake).mul(rhs), stored)
+    store(Stake::new(stake).mul(rhs), stored)
 }
 
+/// The sum of a list of stakes.
 #[unsafe(no_mangle)]
 pub extern "C" fn valwydr_stake_sum(stakes: &[u64], stored: &mut u64) -> bool
-    ensures value { result ≡ is_stake (checked (total stakes.now)) }
-    ensures stored_after { stored.new ≡ stake_after (checked (total stakes.now)) stored.old }
+    ensures { (result, stored.new) ≡ stake_told stored.old (checked (sum stakes.now)) }
 {
-    answers::tell_stake(Stake::sum(stakes), stored)
+    store(Stake::sum(stakes), stored)
 }
 
-// The stake in decimal digits, written to the front of the buffer.
+// Whether the digits have room, which are then written, and their count stored.
+fn write(number: u64, buffer: &mut [u8], written: &mut usize) -> bool
+    ensures { (result, buffer.new, written.new) ≡ digits_told written.old (write_decimal number buffer.old) }
+{
+    match write_decimal(number, buffer) {
+        Some(count) => {
+            *written = count;
+            true
+        }
+        None => false,
+    }
+}
+
+/// The stake in decimal digits, written to the front of the buffer.
 #[unsafe(no_mangle)]
 pub extern "C" fn valwydr_stake_fmt(stake: u64, buffer: &mut [u8], written: &mut usize) -> bool
-    ensures value { result ≡ is_written (formatted (digits stake) buffer.old) }
-    ensures buffer_after { buffer.new ≡ buffer_after (digits stake) buffer.old }
-    ensures written_after { written.new ≡ count_after (formatted (digits stake) buffer.old) written.old }
+    ensures { (result, buffer.new, written.new) ≡ digits_told written.old (write_decimal stake buffer.old) }
 {
-    answers::tell_formatted(Stake::new(stake).fmt(buffer), written)
+    write(stake, buffer, written)
 }
 
-// A validator's id, likewise.
+/// A validator's id, likewise.
 #[unsafe(no_mangle)]
 pub extern "C" fn valwydr_validator_index_fmt(
     id: u64,
     buffer: &mut [u8],
     written: &mut usize,
 ) -> bool
-    ensures value { result ≡ is_written (formatted (digits id) buffer.old) }
-    ensures buffer_after { buffer.new ≡ buffer_after (digits id) buffer.old }
-    ensures written_after { written.new ≡ count_after (formatted (digits id) buffer.old) written.old }
+    ensures { (result, buffer.new, written.new) ≡ digits_told written.old (write_decimal id buffer.old) }
 {
-    answers::tell_formatted(ValidatorIndex::new(id).fmt(buffer), written)
+    write(id, buffer, written)
 }

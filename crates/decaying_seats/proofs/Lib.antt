@@ -1,2 +1,0 @@
-pub mod SeatLaws
-pub mod AnswerLaws

@@ -1,2 +1,0 @@
-pub mod Seats
-pub mod Answers

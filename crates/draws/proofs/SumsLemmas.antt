@@ -1,0 +1,152 @@
+-- Running sums, and the place that a value chooses among them.
+use Rattle.std.proofs.Common.{◌≡◌, ℕ, zero, suc, ◌+◌, ◌-◌, ◌<◌, ◌≤◌, ◌^◌, List, [], ◌∷◌, length, get_or, take, refl, ap, sym, subst, ◌∙◌, arith, lt-ltb, le-ltb, ne_eqb, Ok}
+use Rattle.std.proofs.Math.Seq.{take-length}
+use borrow.Author.Tests.{lt-leb}
+use Rattle.refusals.specs.Refusal.{first_of, sum_checks, unless}
+use Rattle.std.specs.Prelude.{sum}
+use Rattle.std.proofs.lemmas.List.Sums.{sum_by-cons}
+use Rattle.laws.specs.Sums.{running_from}
+use Rattle.draws.specs.Laws.{WeightsHoldRunningSums}
+use Rattle.draws.specs.Sums.{differences, NeverFallFrom, AreSums}
+use Rattle.draws.proofs.WeightedLemmas.{IsChosen, chosen_is}
+use Rattle.sorted.specs.Search.{IsIn}
+use Rattle.draws.specs.declared.weighted.Place.{Place}
+use Rattle.draws.specs.Weighted.{chosen, place_of}
+
+-- the sum of the weights is the last running sum
+pub sum-differences : (before s : ℕ) (sums : List ℕ) → NeverFallFrom before (s ∷ sums) → before + sum (differences before (s ∷ sums)) ≡ get_or (s ∷ sums) (length sums) 0
+sum-differences before s [] never_fall = omega (arith, never_fall.0)
+sum-differences before s (t ∷ sums) never_fall =
+    let one_more = sum_by-cons (λ x. x) (s - before) (differences s (t ∷ sums)) in
+    let read : get_or (s ∷ t ∷ sums) (length (t ∷ sums)) 0 ≡ get_or (t ∷ sums) (length sums) 0 = refl in
+    omega (arith, sum-differences s t sums never_fall.1, never_fall.0)
+
+pub last_sum : (sums : List ℕ) (total : ℕ) → AreSums sums total → (0 < length sums) × (get_or sums (length sums - 1) 0 ≡ total)
+last_sum [] total are_sums = absurd (let h = are_sums.some in let e = are_sums.is in omega arith)
+last_sum (s ∷ sums) total are_sums =
+    let last : length (s ∷ sums) - 1 ≡ length sums = omega arith in
+    (omega arith, rw last (omega (arith, sum-differences 0 s sums are_sums.never_fall, are_sums.is)))
+
+-- the sums of all weights up to each are their running sums
+pub differences-from_totals : (before : ℕ) (weights sums : List ℕ) → length weights ≡ length sums →
+    ((k : ℕ) → k < length sums → get_or sums k 0 ≡ before + sum (take (suc k) weights)) → (differences before sums ≡ weights) × NeverFallFrom before sums
+differences-from_totals before [] [] same totals = (refl, tt)
+differences-from_totals before [] (s ∷ sums) same totals = absurd (omega arith)
+differences-from_totals before (w ∷ weights) [] same totals = absurd (omega arith)
+differences-from_totals before (w ∷ weights) (s ∷ sums) same totals =
+    let here : s ≡ before + w = omega (arith, totals 0 (omega arith)) in
+    let rest = differences-from_totals s weights sums (omega arith)
+    (λ k within. let one_more = sum_by-cons (λ x. x) w (take (suc k) weights) in omega (arith, totals (suc k) (omega arith))) in
+    let first : s - before ≡ w = omega arith in
+    (rw (first, rest.0), (omega arith, rest.1))
+
+never_fall_from : (before : ℕ) (sums : List ℕ) → NeverFallFrom before sums → (k : ℕ) → k < length sums → before ≤ get_or sums k 0
+never_fall_from before [] never_fall k within = absurd (omega arith)
+never_fall_from before (s ∷ sums) never_fall zero within = never_fall.0
+never_fall_from before (s ∷ sums) never_fall (suc k) within = omega (arith, never_fall_from s sums never_fall.1 k (omega arith), never_fall.0)
+
+pub never_fall_between : (before : ℕ) (sums : List ℕ) → NeverFallFrom before sums → (i j : ℕ) → i ≤ j → j < length sums → get_or sums i 0 ≤ get_or sums j 0
+never_fall_between before [] never_fall i j order within = absurd (omega arith)
+never_fall_between before (s ∷ sums) never_fall zero zero order within = omega arith
+never_fall_between before (s ∷ sums) never_fall zero (suc j) order within = never_fall_from s sums never_fall.1 j (omega arith)
+never_fall_between before (s ∷ sums) never_fall (suc i) zero order within = absurd (omega arith)
+never_fall_between before (s ∷ sums) never_fall (suc i) (suc j) order within = never_fall_between s sums never_fall.1 i j (omega arith) (omega arith)
+
+-- the place with all sums up to v before it, and with a sum above v
+pub chosen-differences : (before : ℕ) (sums : List ℕ) (v i : ℕ) → NeverFallFrom before sums → before ≤ v → i ≤ length sums →
+    ((k : ℕ) → k < i → get_or sums k 0 ≤ v) → ((k : ℕ) → i ≤ k → k < length sums → v < get_or sums k 0) → i ≡ chosen (differences before sums) (v - before)
+chosen-differences before [] v i never_fall from within low high = omega arith
+chosen-differences before (s ∷ sums) v zero never_fall from within low high =
+    let above : v - before < s - before = omega (arith, high 0 (omega arith) (omega arith)) in
+    rw (lt-ltb (v - before) (s - before) above)
+chosen-differences before (s ∷ sums) v (suc i) never_fall from within low high =
+    let past : s - before ≤ v - before = omega (arith, low 0 (omega arith), never_fall.0) in
+    let rest : v - before - (s - before) ≡ v - s = omega (arith, low 0 (omega arith), never_fall.0) in
+    rw (le-ltb (v - before) (s - before) past, rest)
+    (ap suc (chosen-differences s sums v i never_fall.1 (low 0 (omega arith)) (omega arith) (λ k h. low (suc k) (omega arith)) (λ k h l. high (suc k) (omega arith) (omega arith))))
+
+pub chosen-sums : (sums : List ℕ) (v i : ℕ) → NeverFallFrom 0 sums → i ≤ length sums →
+    ((k : ℕ) → k < i → get_or sums k 0 ≤ v) → ((k : ℕ) → i ≤ k → k < length sums → v < get_or sums k 0) → i ≡ chosen (differences 0 sums) v
+chosen-sums sums v i never_fall within low high =
+    let same : v - 0 ≡ v = omega arith in
+    chosen-differences 0 sums v i never_fall (omega arith) within low high ∙ ap (chosen (differences 0 sums)) same
+
+pub length_differences : (before : ℕ) (sums : List ℕ) → length (differences before sums) ≡ length sums
+length_differences before [] = refl
+length_differences before (s ∷ sums) = omega (arith, length_differences s sums)
+
+-- a running sum is the sum of the weights up to its place
+pub sum_up_to : (before k : ℕ) (sums : List ℕ) → NeverFallFrom before sums → k < length sums → get_or sums k 0 ≡ before + sum (take (suc k) (differences before sums))
+sum_up_to before k [] never_fall within = absurd (omega arith)
+sum_up_to before zero (s ∷ sums) never_fall within = omega (arith, never_fall.0, sum_by-cons (λ x. x) (s - before) [])
+sum_up_to before (suc k) (s ∷ sums) never_fall within =
+    let one_more = sum_by-cons (λ x. x) (s - before) (take (suc k) (differences s sums)) in
+    omega (arith, never_fall.0, sum_up_to s k sums never_fall.1 (omega arith), one_more)
+
+-- the sum of the weights before a place but the first is the running sum before it
+pub record SumBefore (sums weights : List ℕ) (at : ℕ) : Type 0 where
+  pub within : at - 1 < length sums
+  pub is : get_or sums (at - 1) 0 ≡ sum (take at weights)
+
+pub sum_before : (sums weights : List ℕ) (total at : ℕ) → AreSums sums total → differences 0 sums ≡ weights → at < length weights → (at ≡ 0 → ⊥) → SumBefore sums weights at
+sum_before sums weights total at are_sums shown within some =
+    let within_sums : at - 1 < length sums = omega (arith, some, within, ap length shown, length_differences 0 sums) in
+    let last : suc (at - 1) ≡ at = omega (arith, some) in
+    record {
+      within = within_sums;
+      is = omega (arith, sum_up_to 0 (at - 1) sums are_sums.never_fall within_sums, ap (λ (ws : List ℕ). sum (take (suc (at - 1)) ws)) shown, ap (λ k. sum (take k weights)) last);
+    }
+
+pub total_shown : (sums weights : List ℕ) (total : ℕ) → AreSums sums total → differences 0 sums ≡ weights → total ≡ sum weights
+total_shown sums weights total are_sums shown = are_sums.is ∙ ap sum shown
+
+-- what the search of the running sums finds
+pub record Found (weights : List ℕ) (v at : ℕ) : Type 0 where
+  pub is : at ≡ chosen weights v
+  pub chosen_there : IsChosen weights v at
+
+pub found : (sums weights : List ℕ) (total v at : ℕ) → AreSums sums total → differences 0 sums ≡ weights → v < sum weights → IsIn sums v at 0 → Found weights v at
+found sums weights total v at are_sums shown low is_in =
+    let is : at ≡ chosen weights v =
+    chosen-sums sums v at are_sums.never_fall (omega (arith, is_in.within)) is_in.before (λ k from. is_in.after k (omega arith)) ∙ ap (λ (ws : List ℕ). chosen ws v) shown in
+    record { is = is; chosen_there = subst (IsChosen weights v) (sym is) (chosen_is weights v low) }
+
+-- the place and its remainder
+pub place_made : (weights : List ℕ) (v at before : ℕ) → Found weights v at → before ≡ sum (take at weights) →
+    ◌≡◌ {A = Place} (record { at = at; remainder = v - before }) (place_of weights v)
+place_made weights v at before there is = rw (is, there.is) refl
+
+pub sums_from_totals : (weights sums : List ℕ) → length weights ≡ length sums → ((k : ℕ) → k < length sums → get_or sums k 0 ≡ sum (take (k + 1) weights)) →
+    (differences 0 sums ≡ weights) × NeverFallFrom 0 sums
+sums_from_totals weights sums same totals =
+    differences-from_totals 0 weights sums same
+    (λ k within. let one_more : k + 1 ≡ suc k = omega arith in omega (arith, totals k within, ap (λ n. sum (take n weights)) one_more))
+
+-- what a loop over the weights keeps, before weight i
+pub record SummedTo (i s : ℕ) (weights sums : List ℕ) : Type 0 where
+  pub within : i ≤ length weights
+  pub fits : s < 2 ^ 64
+  pub total : s ≡ sum (take i weights)
+  pub totals : (k : ℕ) → k < i → get_or sums k 0 ≡ sum (take (k + 1) weights)
+
+-- what stands after the last weight, where the sum is not 0
+pub record Finished (weights sums : List ℕ) (total : ℕ) : Type 0 where
+  pub are_sums : AreSums sums total
+  pub answer : Ok (differences 0 sums) ≡ unless (first_of (sum_checks weights)) (Ok weights)
+
+pub finished : (i s : ℕ) (weights sums : List ℕ) → SummedTo i s weights sums → length weights ≡ length sums → length weights ≤ i → (s ≡ 0 → ⊥) → Finished weights sums s
+finished i s weights sums to same end some =
+    let all : take i weights ≡ weights = ap (λ n. take n weights) (omega (arith, to.within)) ∙ take-length weights in
+    let whole : s ≡ sum weights = to.total ∙ ap sum all in
+    let known = sums_from_totals weights sums same (λ k h. to.totals k (omega arith)) in
+    record {
+      are_sums = record { never_fall = known.1; is = rw known.0 whole; some = omega arith };
+      answer = rw (known.0, lt-leb (2 ^ 64) (sum weights) (omega (arith, to.fits)), ne_eqb (sum weights) 0 (λ e. some (whole ∙ e)));
+    }
+
+running_back : (before : ℕ) (sums : List ℕ) → NeverFallFrom before sums → sums ≡ running_from before (differences before sums)
+running_back before [] never_fall = refl
+running_back before (s ∷ sums) never_fall = let here : before + (s - before) ≡ s = omega (arith, never_fall.0) in rw here (ap (s ∷◌) (running_back s sums never_fall.1))
+
+pub holds_running_sums : WeightsHoldRunningSums
+holds_running_sums sums total are_sums = running_back 0 sums are_sums.never_fall

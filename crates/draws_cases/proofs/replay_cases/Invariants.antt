@@ -1,9 +1,0 @@
--- `draws_cases::replay_cases` is safe and ends: each case is read from a place further on.
-use Rattle.std.proofs.Common.{◌-◌, length}
-use Rattle.draws_cases.proofs.replay_cases.Given as goal
-
-abbrev pub invariant-loop-at : goal.invariant-loop-at
-invariant-loop-at l = Unit {0}
-
-abbrev pub decreases-loop-at : goal.decreases-loop-at
-decreases-loop-at l = length l.text - l.at

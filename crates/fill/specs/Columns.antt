@@ -1,0 +1,38 @@
+-- Three lent columns of pieces.
+use Rattle.std.specs.Prelude.{ℕ, ◌+◌, ◌≡◌, ◌≤◌, ◌<◌, ◌++◌, if◌then◌else◌, ◌==◌, List, map, length, drop, set}
+use Rattle.fill.specs.declared.columns.Columns.{Columns}
+use Rattle.fill.specs.declared.piece.Piece.{Piece}
+
+-- each column has so many places
+pub record HaveRoom (columns : Columns) (places : ℕ) : Type 0 where
+  pub bins : places ≤ length columns.bins.now
+  pub validators : places ≤ length columns.validators.now
+  pub stakes : places ≤ length columns.stakes.now
+
+-- the columns are the same three loans
+pub record SameLoans (old new : Columns) : Type 0 where
+  pub bins : new.bins.ghost_name ≡ old.bins.ghost_name
+  pub validators : new.validators.ghost_name ≡ old.validators.ghost_name
+  pub stakes : new.stakes.ghost_name ≡ old.stakes.ghost_name
+
+-- the piece stands at a place, and the others are as they were
+pub record PutAt (old new : Columns) (at : ℕ) (piece : Piece) : Type 0 where
+  pub bins : new.bins.now ≡ set old.bins.now at piece.bin
+  pub validators : new.validators.now ≡ set old.validators.now at piece.validator
+  pub stakes : new.stakes.now ≡ set old.stakes.now at piece.stake
+
+-- the piece is stored at a place, and the next place is given; "a zero stake leaves no piece"
+pub record Stored (old new : Columns) (at place : ℕ) (piece : Piece) : Type 0 where
+  pub next : place ≡ (if piece.stake == 0 then at else (at + 1))
+  pub none : piece.stake ≡ 0 → new ≡ old
+  pub put : 0 < piece.stake → PutAt old new at piece
+
+-- what a lent column holds after the pieces are written to its front: past them is what was there
+abbrev pub column_after : (Piece → ℕ) → List Piece → List ℕ → List ℕ
+column_after part pieces held = map part pieces ++ drop (length pieces) held
+
+-- the pieces stand at the front of the columns
+pub record Begin (old new : Columns) (pieces : List Piece) : Type 0 where
+  pub bins : new.bins.now ≡ column_after (λ p. p.bin) pieces old.bins.now
+  pub validators : new.validators.now ≡ column_after (λ p. p.validator) pieces old.validators.now
+  pub stakes : new.stakes.now ≡ column_after (λ p. p.stake) pieces old.stakes.now

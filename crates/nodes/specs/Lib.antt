@@ -1,4 +1,0 @@
-pub mod Index
-pub mod Node
-pub mod Run
-pub mod Walks

@@ -1,0 +1,54 @@
+ghost use Rattle.std.specs.Prelude.{◌≡◌, ◌+◌, IsPermutation, length, sum};
+ghost use Rattle.std.specs.Option.{option_map};
+ghost use Rattle.laws.specs.Orders.{ids_from};
+ghost use Rattle.draws.specs.Shuffle.{shuffle};
+ghost use Rattle.partition.specs.Partition.{held_of, over_bins, placed, Fillable};
+ghost use Rattle.fill.specs.Columns.{HaveRoom, SameLoans};
+
+use crate::checks::Bins;
+use draws::shuffle_list;
+use fill::{Columns, draw_values, fill_and_choose};
+use words::WordSource;
+
+// The ids from 0 on.
+fn count_up(order: &mut [u64])
+    ensures { order.new ≡ ids_from 0 (length order.old) }
+{
+    for (i, id) in order.iter_mut().enumerate() {
+        *id = i as u64;
+    }
+}
+
+// The ids from 0 on, shuffled.
+fn shuffle_ids<W: WordSource>(words: &mut W, order: &mut [u64]) -> Option<()>
+    ensures shuffled { (result, order.new, W.words words.new) ≡ shuffle (ids_from 0 (length order.old)) (W.words words.old) }
+    ensures permutation { IsPermutation (ids_from 0 (length order.old)) order.new }
+{
+    count_up(order);
+    shuffle_list(words, order)
+}
+
+/// One seat from each of the bins: the weights are shuffled by the first words, the seats are drawn by the second, and then the pieces
+/// are written. Gives their number; `None` where the words run out, which leaves the columns as they were.
+pub fn draw_bins<A: WordSource, B: WordSource>(
+    weights: &[u64],
+    bins: Bins,
+    first: &mut A,
+    second: &mut B,
+    order: &mut [u64],
+    seats: &mut [u64],
+    columns: &mut Columns,
+) -> Option<usize>
+    requires fillable { Fillable (sum weights.now) bins }
+    requires order { length order.old ≡ length weights.now }
+    requires seats { length seats.old ≡ bins.number }
+    requires room { HaveRoom columns.old (length weights.now + bins.number) }
+    ensures drawn { (option_map (λ n. (n, seats.new)) result, held_of columns.new, A.words first.new, B.words second.new)
+        ≡ placed (held_of columns.old)
+        (over_bins weights.now bins.capacity bins.number (A.words first.old) (B.words second.old)) }
+    ensures same { SameLoans columns.old columns.new }
+{
+    shuffle_ids(first, order)?;
+    draw_values(second, bins.capacity, bins.sum, seats)?;
+    Some(fill_and_choose(weights, order, bins.capacity, columns, seats))
+}

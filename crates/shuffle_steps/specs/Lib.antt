@@ -1,4 +1,0 @@
-pub mod Order
-pub mod Calls
-pub mod Answers
-pub mod Progress

@@ -1,2 +1,0 @@
-// What `shuffle` answers.
-pub use shuffle_steps::answers::{Order, ShuffleAnswer};
