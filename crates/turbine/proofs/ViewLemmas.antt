@@ -2,6 +2,7 @@
 use Rattle.std.proofs.Common.{◌≡◌, ℕ, zero, suc, ◌-◌, Option, Some, None, Result, Ok, Err, List, [], ◌∷◌, ◌++◌, length, take, drop, refl, ap, take_at}
 use Rattle.refusals.specs.declared.refusal.Refusal.{Refusal}
 use Rattle.refusals.specs.declared.refusal.Refusal.TheVariants.{NoWordLeft}
+use Rattle.laws.specs.Buffers.{written}
 use Rattle.words.specs.Draw.{and_then}
 use Rattle.draws.specs.Call.{or_no_word}
 use Rattle.draws.proofs.DrawLemmas.{went}
@@ -13,7 +14,7 @@ use Rattle.weighted_shuffle.specs.Entry as shuffle
 use Rattle.turbine.specs.declared.turbine_tree.TurbineTree.{TurbineTree}
 use Rattle.turbine.specs.declared.turbine_tree.View.{View}
 use Rattle.turbine.specs.View.{neighborhood}
-use Rattle.turbine.specs.Calls.{seen_by, tree_of, written, answered}
+use Rattle.turbine.specs.Calls.{seen_by, tree_of, answered}
 
 -- an order has as many positions as steps were made
 length-steps : (n : ℕ) (left : Left) (ws ps : List ℕ) → (steps n left ws).0 ≡ Some ps → length ps ≡ n
