@@ -4,6 +4,7 @@ use Rattle.std.proofs.Common.{lt-ltb, le-ltb}
 use Rattle.std.proofs.lemmas.List.{get_or-set_same, get_or-set_other, length-set, take_more_set}
 use Rattle.std.proofs.lemmas.List.Sums.{sum_by-cons, sum_by-set, count_by-le-length}
 use Rattle.words.specs.Draw.{and_then}
+use Rattle.words.proofs.FrontLemmas.{with_front, with_front-append}
 use Rattle.draws.specs.Below.{below}
 use Rattle.draws.specs.Weighted.{chosen}
 use Rattle.draws.proofs.WeightedLemmas.{chosen_placed}
@@ -14,14 +15,6 @@ use Rattle.tree.proofs.ZeroLemmas.{all_zeros}
 use Rattle.tree.specs.Holds.{weights_of, Holds, SameTree}
 use Rattle.weighted_shuffle.specs.Order.{Left, Step, step, steps}
 use Rattle.weighted_shuffle.specs.State.{heavy, from_end, left_of, step_to}
-
--- positions that are drawn already, before those of a draw
-abbrev pub with_front : List ℕ → Option (List ℕ) × List ℕ → Option (List ℕ) × List ℕ
-with_front front draw = and_then draw (λ ps left. (Some (front ++ ps), left))
-
-with_front-append : (xs ys : List ℕ) (draw : Option (List ℕ) × List ℕ) → with_front (xs ++ ys) draw ≡ with_front xs (with_front ys draw)
-with_front-append xs ys (None, left) = refl
-with_front-append xs ys (Some zs, left) = ap (λ (s : List ℕ). let o : Option (List ℕ) × List ℕ = (Some s, left) in o) (append_assoc xs ys zs)
 
 -- what the loop over the places keeps
 pub record Drawing (ws₀ drawn₀ : List ℕ) (words₀ : List ℕ) (tree₀ tree : Tree) (drawn words : List ℕ) (i : ℕ) : Type 0 where
