@@ -9,13 +9,15 @@ use Rattle.std.proofs.lemmas.List.Elements.{All-cons}
 use Rattle.std.proofs.lemmas.List.Kept.{AllPairs-cons}
 use Rattle.std.proofs.lemmas.List.Sorted.{All-permutation, length_permutation, IsPermutation-refl, IsPermutation-sym, IsPermutation-trans, IsPermutation-cons, IsPermutation-middle, IsPermutation-append_left, IsPermutation-swap_remove}
 use Rattle.std.proofs.lemmas.List.Sums.{sum_by-cons}
+use Rattle.laws.proofs.Ids.{order_long, order_count}
+use Rattle.laws.proofs.Std.{count_is_count_by}
 use Rattle.words.specs.Draw.{and_then}
 use Rattle.draws.specs.Below.{below}
 use Rattle.weighted_shuffle.specs.Order.{Left, Step, counted, zeros_from, take_zero, step, steps, whole}
 use Rattle.weighted_shuffle.proofs.FillLemmas.{length-counted}
 use Rattle.shuffle_laws.specs.Orders.{IsOrder}
 use Rattle.shuffle_laws.specs.Laws.{ZerosLast, OrdersWhole}
-use Rattle.shuffle_laws.proofs.IdLemmas.{order_long, order_count}
+use Rattle.shuffle_laws.proofs.IdLemmas.{permutes}
 use Rattle.draws.proofs.DrawLemmas.{went, below_low}
 use Rattle.shuffle_laws.proofs.LawLemmas.{by_weight}
 
@@ -167,11 +169,10 @@ pub orders_whole : OrdersWhole
 orders_whole weights ws ps e =
     let C = counted weights in
     let all : IsOrder (length weights) (positions (whole weights)) = (rw (length-counted 0 weights) at (heavy_zeros 0 C)) in
-    let long : length (positions (whole weights)) ≡ length weights = order_long (length weights) (positions (whole weights)) all in
-    let moved = steps_move (length weights) (whole weights) ws ps long e in
-    let permutes = IsPermutation-trans _ _ _ all moved in
+    let long : length (positions (whole weights)) ≡ length weights = order_long (length weights) (positions (whole weights)) (permutes _ _ all) in
+    let moved : IsOrder (length weights) ps = IsPermutation-trans _ _ _ all (steps_move (length weights) (whole weights) ws ps long e) in
     record {
-      permutation = permutes;
-      once = order_count (length weights) ps permutes;
+      permutation = moved;
+      once = λ p low. sym (count_is_count_by p ps) ∙ order_count (length weights) ps (permutes _ ps moved) p low;
       zeros_last = zeros_last C (length weights) (whole weights) ws ps long (record { heavy = λ p h. h; zeros = zeros_start 0 [] C refl }) e;
     }
