@@ -5,6 +5,7 @@ use Rattle.std.specs.List.{range_with_len}
 use Rattle.std.proofs.Math.Seq.{get_or-append_seam, append_snoc}
 use Rattle.std.proofs.lemmas.Bool.{eqb-true, cases_lt}
 use Rattle.std.proofs.lemmas.Grind.{get_or_default_zero}
+use Rattle.std.proofs.lemmas.List.{nil_from_length}
 use Rattle.std.proofs.lemmas.List.Elements.{All-cons}
 use Rattle.std.proofs.lemmas.List.Kept.{AllPairs-cons}
 use Rattle.std.proofs.lemmas.List.Sorted.{All-permutation, length_permutation, IsPermutation-refl, IsPermutation-sym, IsPermutation-trans, IsPermutation-cons, IsPermutation-middle, IsPermutation-append_left, IsPermutation-swap_remove}
@@ -111,11 +112,7 @@ rest_long k left ws ps d h = omega (arith, h, length_permutation _ _ (step_moves
 
 -- as many steps as positions are left give all of them
 steps_move : (k : ℕ) (left : Left) (ws ps : List ℕ) → length (positions left) ≡ k → (steps k left ws).0 ≡ Some ps → IsPermutation (positions left) ps
-steps_move zero left ws ps h e = let none : ps ≡ [] = cc in rw (none, empty (positions left) h) (IsPermutation-refl [])
-  where
-    empty : (xs : List ℕ) → length xs ≡ 0 → xs ≡ []
-    empty [] g = refl
-    empty (x ∷ xs) g = absurd (omega arith)
+steps_move zero left ws ps h e = let none : ps ≡ [] = cc in rw (none, nil_from_length (positions left) h) (IsPermutation-refl [])
 steps_move (suc k) left ws ps h e =
     let d = divided k left ws ps e in
     rw d.ps_are (IsPermutation-trans _ (d.first.position ∷ positions d.first.rest) _ (step_moves left ws d.first d.stepped (omega arith)) (IsPermutation-cons d.first.position _ _ (steps_move k d.first.rest d.rest d.qs (rest_long k left ws ps d h) d.rest_is)))
