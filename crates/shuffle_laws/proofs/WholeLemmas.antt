@@ -5,17 +5,20 @@ use Rattle.std.specs.List.{range_with_len}
 use Rattle.std.proofs.Math.Seq.{get_or-append_seam, append_snoc}
 use Rattle.std.proofs.lemmas.Bool.{eqb-true, cases_lt}
 use Rattle.std.proofs.lemmas.Grind.{get_or_default_zero}
+use Rattle.std.proofs.lemmas.List.{nil_from_length}
 use Rattle.std.proofs.lemmas.List.Elements.{All-cons}
 use Rattle.std.proofs.lemmas.List.Kept.{AllPairs-cons}
 use Rattle.std.proofs.lemmas.List.Sorted.{All-permutation, length_permutation, IsPermutation-refl, IsPermutation-sym, IsPermutation-trans, IsPermutation-cons, IsPermutation-middle, IsPermutation-append_left, IsPermutation-swap_remove}
 use Rattle.std.proofs.lemmas.List.Sums.{sum_by-cons}
+use Rattle.laws.proofs.Ids.{order_long, order_count}
+use Rattle.laws.proofs.Std.{count_is_count_by}
 use Rattle.words.specs.Draw.{and_then}
 use Rattle.draws.specs.Below.{below}
 use Rattle.weighted_shuffle.specs.Order.{Left, Step, counted, zeros_from, take_zero, step, steps, whole}
 use Rattle.weighted_shuffle.proofs.FillLemmas.{length-counted}
 use Rattle.shuffle_laws.specs.Orders.{IsOrder}
 use Rattle.shuffle_laws.specs.Laws.{ZerosLast, OrdersWhole}
-use Rattle.shuffle_laws.proofs.IdLemmas.{order_long, order_count}
+use Rattle.shuffle_laws.proofs.IdLemmas.{permutes}
 use Rattle.draws.proofs.DrawLemmas.{went, below_low}
 use Rattle.shuffle_laws.proofs.LawLemmas.{by_weight}
 
@@ -109,11 +112,7 @@ rest_long k left ws ps d h = omega (arith, h, length_permutation _ _ (step_moves
 
 -- as many steps as positions are left give all of them
 steps_move : (k : ℕ) (left : Left) (ws ps : List ℕ) → length (positions left) ≡ k → (steps k left ws).0 ≡ Some ps → IsPermutation (positions left) ps
-steps_move zero left ws ps h e = let none : ps ≡ [] = cc in rw (none, empty (positions left) h) (IsPermutation-refl [])
-  where
-    empty : (xs : List ℕ) → length xs ≡ 0 → xs ≡ []
-    empty [] g = refl
-    empty (x ∷ xs) g = absurd (omega arith)
+steps_move zero left ws ps h e = let none : ps ≡ [] = cc in rw (none, nil_from_length (positions left) h) (IsPermutation-refl [])
 steps_move (suc k) left ws ps h e =
     let d = divided k left ws ps e in
     rw d.ps_are (IsPermutation-trans _ (d.first.position ∷ positions d.first.rest) _ (step_moves left ws d.first d.stepped (omega arith)) (IsPermutation-cons d.first.position _ _ (steps_move k d.first.rest d.rest d.qs (rest_long k left ws ps d h) d.rest_is)))
@@ -167,11 +166,10 @@ pub orders_whole : OrdersWhole
 orders_whole weights ws ps e =
     let C = counted weights in
     let all : IsOrder (length weights) (positions (whole weights)) = (rw (length-counted 0 weights) at (heavy_zeros 0 C)) in
-    let long : length (positions (whole weights)) ≡ length weights = order_long (length weights) (positions (whole weights)) all in
-    let moved = steps_move (length weights) (whole weights) ws ps long e in
-    let permutes = IsPermutation-trans _ _ _ all moved in
+    let long : length (positions (whole weights)) ≡ length weights = order_long (length weights) (positions (whole weights)) (permutes _ _ all) in
+    let moved : IsOrder (length weights) ps = IsPermutation-trans _ _ _ all (steps_move (length weights) (whole weights) ws ps long e) in
     record {
-      permutation = permutes;
-      once = order_count (length weights) ps permutes;
+      permutation = moved;
+      once = λ p low. sym (count_is_count_by p ps) ∙ order_count (length weights) ps (permutes _ ps moved) p low;
       zeros_last = zeros_last C (length weights) (whole weights) ws ps long (record { heavy = λ p h. h; zeros = zeros_start 0 [] C refl }) e;
     }

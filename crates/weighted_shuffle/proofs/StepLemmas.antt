@@ -2,7 +2,7 @@
 use Rattle.std.proofs.Common.{nat_lt, ◌≡◌, ℕ, zero, suc, ◌+◌, ◌-◌, ◌≤◌, ◌<◌, Option, Some, None, List, [], ◌∷◌, ◌++◌, length, take, get_or, set, sum, replicate, refl, ap, ◌∙◌, arith, append_assoc, if◌then◌else◌}
 use Rattle.std.proofs.Common.{lt-ltb, le-ltb}
 use Rattle.std.proofs.lemmas.List.{get_or-set_same, get_or-set_other, length-set, take_more_set}
-use Rattle.std.proofs.lemmas.List.Sums.{sum_by-cons, sum_by-set, count_by-le-length}
+use Rattle.std.proofs.lemmas.List.Sums.{sum_by-cons, sum_by-set}
 use Rattle.words.specs.Draw.{and_then}
 use Rattle.words.proofs.FrontLemmas.{with_front, with_front-append}
 use Rattle.draws.specs.Below.{below}
@@ -132,21 +132,6 @@ pub front_none : (drawn : List ℕ) (i : ℕ) (left : Left) (words rest : List �
 front_none drawn i left words rest within stepped =
     let one_more : length drawn - i ≡ suc (length drawn - (i + 1)) = omega arith in
     rw (one_more, ← stepped)
-
-with_front-nil : (draw : Option (List ℕ) × List ℕ) → with_front [] draw ≡ draw
-with_front-nil (None, left) = refl
-with_front-nil (Some ps, left) = refl
-
-pub drawing_none : (tree : Tree) (drawn words : List ℕ) → Holds tree (weights_of tree) → length drawn ≡ tree.count → Drawing (weights_of tree) drawn words tree tree drawn words 0
-drawing_none tree drawn words holds room =
-    let all : length drawn - 0 ≡ length drawn = omega arith in
-    record {
-      holds = holds;
-      same = record { nodes = refl; count = refl; first = refl };
-      long = refl;
-      left = omega (arith, count_by-le-length (λ w. nat_lt 0 w) (weights_of tree), holds.count);
-      order = with_front-nil (steps (length drawn - 0) (left_of 0 (weights_of tree) drawn) words) ∙ ap (λ (n : ℕ). steps n (left_of 0 (weights_of tree) drawn) words) all;
-    }
 
 module _ {ws₀ drawn₀ words₀ drawn words : List ℕ} {tree₀ tree : Tree} {i : ℕ} (d : Drawing ws₀ drawn₀ words₀ tree₀ tree drawn words i) where
   pub drawing_next : (tree' : Tree) (drawn' words' : List ℕ) (p : ℕ) → i < length drawn → Holds tree' (weights_of tree') → SameTree tree tree' → length drawn' ≡ length drawn → i + 1 + heavy (weights_of tree') ≤ length drawn → take i drawn' ≡ take i drawn →
