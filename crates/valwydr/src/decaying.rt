@@ -18,7 +18,8 @@ pub extern "C" fn valwydr_decaying_acceptance_sample_one(
 ) -> u64
     ensures { (result, answer.new, counts.new)
         ≡ tried_told answer.old
-        (sample_one (record { max_samples = max_samples; tries_allowed = tries_allowed; k = 1 }) stakes.now counts.old (drop cursor list.now)) }
+        (sample_one (record { limits = record { max_samples = max_samples; tries_allowed = tries_allowed }; k = 1 })
+        stakes.now counts.old (drop cursor list.now)) }
 {
     let sampler = DecayingAcceptanceSampler::new(max_samples, tries_allowed, 1);
     match sampler.sample_one(stakes, counts, ListWords::new(list, cursor)) {
@@ -51,7 +52,8 @@ pub extern "C" fn valwydr_decaying_acceptance_sample_quorum(
 ) -> u64
     ensures { (result, answer.new, counts.new, seats.new)
         ≡ tried_quorum_told answer.old
-        (sample_quorum (record { max_samples = max_samples; tries_allowed = tries_allowed; k = k }) stakes.now counts.old seats.old (drop cursor list.now)) }
+        (sample_quorum (record { limits = record { max_samples = max_samples; tries_allowed = tries_allowed }; k = k })
+        stakes.now counts.old seats.old (drop cursor list.now)) }
 {
     let sampler = DecayingAcceptanceSampler::new(max_samples, tries_allowed, k);
     match sampler.sample_quorum(stakes, counts, ListWords::new(list, cursor), seats) {
