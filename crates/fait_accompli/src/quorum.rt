@@ -1,6 +1,6 @@
-ghost use Rattle.std.specs.Prelude.{◌≡◌, ◌+◌, ◌≤◌, ◌<◌, length, sum};
+ghost use Rattle.std.specs.Prelude.{◌≡◌, ◌≤◌, ◌<◌, length};
 ghost use Rattle.refusals.specs.Refusal.{first_of};
-ghost use Rattle.fill.specs.Columns.{HaveRoom, SameLoans};
+ghost use Rattle.fill.specs.Columns.{SameLoans};
 ghost use Rattle.partition.specs.Partition.{held_of};
 ghost use Rattle.fait_accompli.specs.declared.quorum.Fallback.TheVariants.{Bins, Draws};
 ghost use Rattle.fait_accompli.specs.Seats.{size_of, Roomy};
@@ -9,7 +9,7 @@ ghost use Rattle.fait_accompli.specs.Calls.{piece_checks, committee_over, told, 
 use crate::further::{Summed, draw_further};
 use fill::Columns;
 use fixed_seats::{Division, seat_fixed};
-use partition::check_columns;
+use partition::{Sources, check_columns};
 use refusals::{Refusal, check_list_length, check_room, check_size_of_some, check_sum};
 use words::WordSource;
 
@@ -108,20 +108,20 @@ impl FaitAccompli1Sampler {
             ≡ sample_quorum self stakes.now (seats.old, held_of columns.old) (A.words first) (B.words second) }
         ensures same { SameLoans columns.old columns.new }
     {
-        let (mut first, mut second) = (first, second);
+        let mut words = Sources { first, second };
         let (n, k) = (stakes.len(), self.fallback.size());
         check_list_length(n)?;
         check_size_of_some(k)?;
         check_room(seats.len(), k)?;
         self.fallback.check_pieces(columns, n)?;
-        let sum = check_sum(stakes)?;
-        let list = Summed { stakes, sum };
+        let total = check_sum(stakes)?;
+        let list = Summed { stakes, total };
         if n <= 64 && k <= 64 {
-            self.in_scratch::<A, B, 64, 64>(list, &mut first, &mut second, seats, columns)
+            self.in_scratch::<A, B, 64, 64>(list, &mut words, seats, columns)
         } else if n <= 1024 {
-            self.in_scratch::<A, B, 1024, 1024>(list, &mut first, &mut second, seats, columns)
+            self.in_scratch::<A, B, 1024, 1024>(list, &mut words, seats, columns)
         } else {
-            self.in_scratch::<A, B, 4096, 1024>(list, &mut first, &mut second, seats, columns)
+            self.in_scratch::<A, B, 4096, 1024>(list, &mut words, seats, columns)
         }
     }
 
@@ -130,8 +130,7 @@ impl FaitAccompli1Sampler {
     fn in_scratch<A: WordSource, B: WordSource, const N: usize, const K: usize>(
         self,
         list: Summed,
-        first: &mut A,
-        second: &mut B,
+        words: &mut Sources<A, B>,
         seats: &mut [u64],
         columns: &mut Columns,
     ) -> Result<Committee, Refusal>
@@ -139,13 +138,12 @@ impl FaitAccompli1Sampler {
         requires stakes { length list.stakes.now ≤ N }
         requires drawn { size_of self.fallback ≤ K }
         requires seat { 0 < size_of self.fallback }
-        requires sum { list.sum ≡ sum list.stakes.now }
-        requires some { 0 < list.sum }
+        requires some { 0 < list.total }
         requires seats { size_of self.fallback ≤ length seats.old }
         requires room { Roomy self.fallback columns.old (length list.stakes.now) (size_of self.fallback) }
         ensures told { (result, (seats.new, held_of columns.new))
-            ≡ told self.fallback list.entry.stakes.now (seats.old, held_of columns.old) (A.words first.old) (B.words second.old)
-            (committee_over self.fallback list.entry.stakes.now (A.words first.old) (B.words second.old)) }
+            ≡ told self.fallback list.entry.stakes.now (seats.old, held_of columns.old) (A.words words.old.first) (B.words words.old.second)
+            (committee_over self.fallback list.entry.stakes.now (A.words words.old.first) (B.words words.old.second)) }
         ensures same { SameLoans columns.old columns.new }
     {
         let (n, k) = (list.stakes.len(), self.fallback.size());
@@ -154,28 +152,26 @@ impl FaitAccompli1Sampler {
         let mut drawn = [0; K];
         let kept = &mut kept[..n];
         let drawn = &mut drawn[..k];
-        let (first_left, second_left) = (first.words_left(), second.words_left());
-        let fixed = seat_fixed(list.stakes, Division::new(k as u64, list.sum), drawn, kept);
+        let before = words.words_left();
+        let fixed = seat_fixed(
+            list.stakes,
+            Division::new(k as u64, list.total),
+            drawn,
+            kept,
+        );
         let kept = Summed {
             stakes: kept,
-            sum: fixed.stake,
+            total: fixed.stake,
         };
         let others = &mut drawn[fixed.seats..];
-        let pieces = draw_further(
-            self.fallback,
-            kept,
-            first,
-            second,
-            &mut space[..n],
-            others,
-            columns,
-        )?;
+        let pieces = draw_further(self.fallback, kept, words, &mut space[..n], others, columns)?;
         seats[..k].copy_from_slice(drawn);
+        let (first_words_read, second_words_read) = words.read_since(before);
         Ok(Committee {
             further: k - fixed.seats,
             pieces,
-            first_words_read: first_left.saturating_sub(first.words_left()),
-            second_words_read: second_left.saturating_sub(second.words_left()),
+            first_words_read,
+            second_words_read,
         })
     }
 }
