@@ -166,7 +166,7 @@ impl FaitAccompli1Sampler {
         let others = &mut drawn[fixed.seats..];
         let pieces = draw_further(self.fallback, kept, words, &mut space[..n], others, columns)?;
         seats[..k].copy_from_slice(drawn);
-        let (first_words_read, second_words_read) = words.words_read(before);
+        let (first_words_read, second_words_read) = words.read_since(before);
         Ok(Committee {
             further: k - fixed.seats,
             pieces,

@@ -110,7 +110,7 @@ fn in_scratch<A: WordSource, B: WordSource, const N: usize, const K: usize>(
     let before = words.words_left();
     let pieces = draw_bins(stakes, bins, words, order, drawn, columns).ok_or(Refusal::NoWordLeft)?;
     seats[..bins.number].copy_from_slice(drawn);
-    let (first_words_read, second_words_read) = words.words_read(before);
+    let (first_words_read, second_words_read) = words.read_since(before);
     Ok(Partition {
         pieces,
         first_words_read,

@@ -18,7 +18,7 @@ impl<A: WordSource, B: WordSource> Sources<A, B> {
     }
 
     /// How many words of each were read since so many were still to come.
-    pub fn words_read(&self, before: (usize, usize)) -> (usize, usize)
+    pub fn read_since(&self, before: (usize, usize)) -> (usize, usize)
         ensures { result ≡ (before.0 - length (A.words self.now.first), before.1 - length (B.words self.now.second)) }
     {
         let left = self.words_left();

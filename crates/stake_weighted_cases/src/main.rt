@@ -9,7 +9,7 @@ use std::alloc::Global;
 use std::io;
 use words::ListWords;
 
-// A text of so many bytes is too long.
+// A text of so many bytes is too long. A test of the stored texts reads it in each program.
 const ROOM: usize = 262144;
 
 // One validator. The case's number is the cursor; it expects the id and the words read.
@@ -35,13 +35,14 @@ fn quorum_agrees(text: &mut Reader, alloc: Global) -> Option<bool>
     let list = text.list(WORDS, alloc)?;
     let expected = text.expected::<1>()?;
     let seated = text.list_if(expected.is_ok(), SEATS, alloc)?;
-    let mut seats = cases::lent(numbers[2], SEATS, alloc)?;
+    let before = cases::lent(numbers[2], SEATS, alloc)?;
+    let mut seats = before.clone().ok()?;
     let words = ListWords::new(&list, numbers[1] as usize);
     let sampler = IidQuorumSampler::new(StakeWeightedSampler::new(), numbers[0] as usize);
     let answer = sampler.sample_quorum(&stakes, words, &mut seats);
     let told = answer.map(|quorum| [quorum.words_read as u64]);
     let same = told.map_err(|refusal| refusal.number()) == expected;
-    Some(same && cases::holds(&seats, &seated))
+    Some(same && cases::holds(&seats, &before, &seated))
 }
 
 struct StakeWeightedCases;
