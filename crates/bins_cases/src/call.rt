@@ -38,23 +38,23 @@ pub fn quorum_agrees<const N: usize, S: BinsSampler<N>, F: FnOnce(usize) -> S>(
     requires callable { F.IsAlwaysCallable new }
     ensures { length text.new ≤ length text.old }
 {
-    let numbers = text.numbers::<7>()?;
+    let [size, first_at, second_at, seats, bins, validators, pieces] = text.numbers::<7>()?;
     let stakes = text.list(STAKES, alloc)?;
     let first = text.list(WORDS, alloc)?;
     let second = text.list(WORDS, alloc)?;
     let expected = text.expected::<N>()?;
     let wanted = Lists::read_if(expected.is_ok(), text, alloc)?;
-    let before = Lists::lent([numbers[3], numbers[4], numbers[5], numbers[6]], alloc)?;
+    let before = Lists::lent([seats, bins, validators, pieces], alloc)?;
     let mut lent = before.clone().ok()?;
     let mut columns = Columns {
         bins: &mut lent.bins,
         validators: &mut lent.validators,
         stakes: &mut lent.stakes,
     };
-    let answer = new(numbers[0] as usize).sample_quorum(
+    let answer = new(size as usize).sample_quorum(
         &stakes,
-        ListWords::new(&first, numbers[1] as usize),
-        ListWords::new(&second, numbers[2] as usize),
+        ListWords::new(&first, first_at as usize),
+        ListWords::new(&second, second_at as usize),
         &mut lent.seats,
         &mut columns,
     );

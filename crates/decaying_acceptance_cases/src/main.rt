@@ -30,17 +30,17 @@ fn counts_of(numbers: &[u64], alloc: Global) -> Option<Vec<u32>>
 fn one_agrees(text: &mut Reader, alloc: Global) -> Option<bool>
     ensures { length text.new ≤ length text.old }
 {
-    let numbers = text.numbers::<3>()?;
+    let [max_samples, allowed, cursor] = text.numbers::<3>()?;
     let stakes = text.list(STAKES, alloc)?;
     let before = text.list(STAKES, alloc)?;
     let list = text.list(WORDS, alloc)?;
     let expected = text.expected::<3>()?;
     let counted = text.list_if(expected.is_ok(), STAKES, alloc)?;
     let mut counts = counts_of(&before, alloc)?;
-    let words = ListWords::new(&list, numbers[2] as usize);
+    let words = ListWords::new(&list, cursor as usize);
     let sampler = DecayingAcceptanceSampler::new(
-        f64_from_bits_with_nan(numbers[0]),
-        numbers[1] as usize,
+        f64_from_bits_with_nan(max_samples),
+        allowed as usize,
         1,
     );
     let answer = sampler.sample_one(&stakes, &mut counts, words);
@@ -54,7 +54,7 @@ fn one_agrees(text: &mut Reader, alloc: Global) -> Option<bool>
 fn quorum_agrees(text: &mut Reader, alloc: Global) -> Option<bool>
     ensures { length text.new ≤ length text.old }
 {
-    let numbers = text.numbers::<5>()?;
+    let [k, max_samples, allowed, cursor, places] = text.numbers::<5>()?;
     let stakes = text.list(STAKES, alloc)?;
     let before = text.list(STAKES, alloc)?;
     let list = text.list(WORDS, alloc)?;
@@ -62,11 +62,11 @@ fn quorum_agrees(text: &mut Reader, alloc: Global) -> Option<bool>
     let seated = text.list_if(expected.is_ok(), SEATS, alloc)?;
     let counted = text.list_if(expected.is_ok(), STAKES, alloc)?;
     let mut counts = counts_of(&before, alloc)?;
-    let lent = cases::lent(numbers[4], SEATS, alloc)?;
+    let lent = cases::lent(places, SEATS, alloc)?;
     let mut seats = lent.clone().ok()?;
-    let words = ListWords::new(&list, numbers[3] as usize);
-    let (max_samples, allowed) = (f64_from_bits_with_nan(numbers[1]), numbers[2] as usize);
-    let sampler = DecayingAcceptanceSampler::new(max_samples, allowed, numbers[0] as usize);
+    let words = ListWords::new(&list, cursor as usize);
+    let max_samples = f64_from_bits_with_nan(max_samples);
+    let sampler = DecayingAcceptanceSampler::new(max_samples, allowed as usize, k as usize);
     let answer = sampler.sample_quorum(&stakes, &mut counts, words, &mut seats);
     let told = answer.map(|quorum| [quorum.tries as u64, quorum.words_read as u64]);
     let same = told.map_err(|refusal| refusal.number()) == expected;

@@ -30,15 +30,15 @@ fn sample_agrees(text: &mut Reader, alloc: Global) -> Option<bool>
 fn quorum_agrees(text: &mut Reader, alloc: Global) -> Option<bool>
     ensures { length text.new ≤ length text.old }
 {
-    let numbers = text.numbers::<3>()?;
+    let [k, cursor, places] = text.numbers::<3>()?;
     let stakes = text.list(STAKES, alloc)?;
     let list = text.list(WORDS, alloc)?;
     let expected = text.expected::<1>()?;
     let seated = text.list_if(expected.is_ok(), SEATS, alloc)?;
-    let before = cases::lent(numbers[2], SEATS, alloc)?;
+    let before = cases::lent(places, SEATS, alloc)?;
     let mut seats = before.clone().ok()?;
-    let words = ListWords::new(&list, numbers[1] as usize);
-    let sampler = IidQuorumSampler::new(StakeWeightedSampler::new(), numbers[0] as usize);
+    let words = ListWords::new(&list, cursor as usize);
+    let sampler = IidQuorumSampler::new(StakeWeightedSampler::new(), k as usize);
     let answer = sampler.sample_quorum(&stakes, words, &mut seats);
     let told = answer.map(|quorum| [quorum.words_read as u64]);
     let same = told.map_err(|refusal| refusal.number()) == expected;

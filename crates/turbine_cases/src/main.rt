@@ -63,23 +63,23 @@ fn answers(
 fn view_agrees(text: &mut Reader, alloc: Global) -> Option<bool>
     ensures { length text.new ≤ length text.old }
 {
-    let numbers = text.numbers::<6>()?;
+    let [fanout, own_id, cursor, places, nodes_lent, most_children] = text.numbers::<6>()?;
     let stakes = text.list(STAKES, alloc)?;
     let list = text.list(WORDS, alloc)?;
     let expected = text.expected::<4>()?;
     let named = text.list_if(expected.is_ok(), STAKES, alloc)?;
     let ordered = text.list_if(expected.is_ok(), STAKES, alloc)?;
-    let order_before = cases::lent(numbers[3], STAKES, alloc)?;
-    let children_before = cases::lent(numbers[5], STAKES, alloc)?;
+    let order_before = cases::lent(places, STAKES, alloc)?;
+    let children_before = cases::lent(most_children, STAKES, alloc)?;
     let mut order = order_before.clone().ok()?;
     let mut children = children_before.clone().ok()?;
     let mut nodes = [nodes_cases::filled(HELD); 280];
-    let lent = numbers[4].min(280) as usize;
+    let lent = nodes_lent.min(280) as usize;
     let view = TurbineTree::new(
         &stakes,
-        numbers[0] as usize,
-        ValidatorIndex::new(numbers[1]),
-        ListWords::new(&list, numbers[2] as usize),
+        fanout as usize,
+        ValidatorIndex::new(own_id),
+        ListWords::new(&list, cursor as usize),
         &mut order,
         &mut nodes[..lent],
         &mut children,
@@ -91,23 +91,23 @@ fn view_agrees(text: &mut Reader, alloc: Global) -> Option<bool>
     Some(same && same_nodes && same_lists)
 }
 
-// The seed of a shred's Turbine tree or, else, of a slice's relays. The numbers are the slot, the shred or slice, and how many bytes are
-// lent; the case expects the bytes.
-fn seed_agrees(turbine: bool, text: &mut Reader, alloc: Global) -> Option<bool>
+// A seed, by its function. The numbers are the slot, the shred or slice, and how many bytes are lent; the case expects the bytes.
+fn seed_agrees<F: FnOnce(u64, u64, &mut [u8]) -> Result<(), Refusal>>(
+    write_seed: F,
+    text: &mut Reader,
+    alloc: Global,
+) -> Option<bool>
+    requires callable { F.IsAlwaysCallable write_seed }
     ensures { length text.new ≤ length text.old }
 {
-    let numbers = text.numbers::<3>()?;
+    let [slot, part, places] = text.numbers::<3>()?;
     let refusal = text.number()?;
     let wanted = text.list_if(refusal == 0, BYTES, alloc)?;
-    let lent = numbers[2].min(BYTES) as usize;
+    let lent = places.min(BYTES) as usize;
     let before = [u64::from(HELD_BYTE); 64];
     let mut seed = [HELD_BYTE; 64];
     let seed = &mut seed[..lent];
-    let answer = if turbine {
-        turbine_seed(numbers[0], numbers[1], seed)
-    } else {
-        rotor_seed(numbers[0], numbers[1], seed)
-    };
+    let answer = write_seed(slot, part, seed);
     let told = answer.map_or_else(|refusal| refusal.number(), |()| 0);
     Some(told == refusal && cases::holds(seed, &before[..lent], &wanted))
 }
@@ -131,8 +131,8 @@ impl Cases for TurbineCases {
         // A stored text names an operation by its number.
         match operation {
             1 => view_agrees(text, alloc),
-            2 => seed_agrees(true, text, alloc),
-            3 => seed_agrees(false, text, alloc),
+            2 => seed_agrees(turbine_seed, text, alloc),
+            3 => seed_agrees(rotor_seed, text, alloc),
             4 => relay_agrees(text, alloc),
             _ => None,
         }

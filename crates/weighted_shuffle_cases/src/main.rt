@@ -78,14 +78,14 @@ fn begins(
 fn begin_agrees(text: &mut Reader, alloc: Global) -> Option<bool>
     ensures { length text.new ≤ length text.old }
 {
-    let numbers = text.numbers::<2>()?;
+    let [places, nodes_lent] = text.numbers::<2>()?;
     let weights = text.list(WEIGHTS, alloc)?;
     let expected = text.expected::<1>()?;
     let sums = text.list_if(expected.is_ok(), SUMS, alloc)?;
     let zeros = text.list_if(expected.is_ok(), POSITIONS, alloc)?;
-    let mut order = cases::lent(numbers[0], WEIGHTS, alloc)?;
+    let mut order = cases::lent(places, WEIGHTS, alloc)?;
     let mut nodes = [nodes_cases::filled(HELD); 280];
-    let lent = numbers[1].min(280) as usize;
+    let lent = nodes_lent.min(280) as usize;
     let refusal = turned_down(&weights, &mut order, &mut nodes[..lent]);
     match expected {
         Ok(weight) => Some(refusal.is_none() && begins(&weights, weight[0], &sums, &zeros, alloc)?),
@@ -97,15 +97,15 @@ fn begin_agrees(text: &mut Reader, alloc: Global) -> Option<bool>
 fn shuffle_agrees(text: &mut Reader, alloc: Global) -> Option<bool>
     ensures { length text.new ≤ length text.old }
 {
-    let numbers = text.numbers::<2>()?;
+    let [cursor, places] = text.numbers::<2>()?;
     let weights = text.list(WEIGHTS, alloc)?;
     let list = text.list(WORDS, alloc)?;
     let expected = text.expected::<1>()?;
     let ordered = text.list_if(expected.is_ok(), WEIGHTS, alloc)?;
-    let before = cases::lent(numbers[1], WEIGHTS, alloc)?;
+    let before = cases::lent(places, WEIGHTS, alloc)?;
     let mut order = before.clone().ok()?;
     let mut nodes = [nodes_cases::filled(HELD); 280];
-    let words = ListWords::new(&list, numbers[0] as usize);
+    let words = ListWords::new(&list, cursor as usize);
     let answer = shuffle(&weights, words, &mut order, &mut nodes);
     let same_nodes = nodes_cases::left_so(&nodes, answer.is_ok(), weights.len(), HELD);
     let told = answer.map(|order| [order.words_read as u64]);
