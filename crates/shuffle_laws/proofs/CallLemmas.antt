@@ -15,7 +15,10 @@ call_law weights held nodes ws = checked (first_of (shuffle_checks (length weigh
   where
     drawn : (draw : Option (List ℕ) × List ℕ) → ((ps : List ℕ) → draw.0 ≡ Some ps → Whole weights ps) → Law weights (without_words (answered weights held nodes ws (or_no_word draw)))
     drawn (None, left) whole = tt
-    drawn (Some ps, left) whole = let known = whole ps refl in rw (take_at ps (drop (length ps) held) (length weights) (order_long (length weights) ps (permutes _ ps known.permutation))) known
+    drawn (Some ps, left) whole =
+        let known = whole ps refl in
+        let long = order_long (length weights) ps (permutes _ ps known.permutation) in
+        rw (take_at ps (drop (length ps) held) (length weights) long) known
 
     checked : (r : Result (Unit {0}) Refusal) → Law weights (without_words (answered weights held nodes ws (after_checks r ws (or_no_word (order weights ws)))))
     checked (Err refusal) = tt

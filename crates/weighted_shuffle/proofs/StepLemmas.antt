@@ -1,9 +1,8 @@
 -- The steps of a shuffle.
-use Rattle.std.proofs.Common.{nat_lt, ◌≡◌, ℕ, zero, suc, ◌+◌, ◌-◌, ◌≤◌, ◌<◌, Option, Some, None, List, [], ◌∷◌, ◌++◌, length, take, get_or, set, sum, replicate, refl, ap, ◌∙◌, arith, append_assoc, if◌then◌else◌}
+use Rattle.std.proofs.Common.{nat_lt, ◌≡◌, ℕ, zero, suc, ◌+◌, ◌-◌, ◌≤◌, ◌<◌, Option, Some, None, List, [], ◌∷◌, length, take, get_or, set, sum, replicate, refl, ap, ◌∙◌, arith, if◌then◌else◌}
 use Rattle.std.proofs.Common.{lt-ltb, le-ltb}
 use Rattle.std.proofs.lemmas.List.{get_or-set_same, get_or-set_other, length-set, take_more_set}
 use Rattle.std.proofs.lemmas.List.Sums.{sum_by-cons, sum_by-set}
-use Rattle.words.specs.Draw.{and_then}
 use Rattle.words.proofs.FrontLemmas.{with_front, with_front-append}
 use Rattle.draws.specs.Below.{below}
 use Rattle.draws.specs.Weighted.{chosen}
