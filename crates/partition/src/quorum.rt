@@ -8,6 +8,7 @@ use crate::checks::{Bins, check_bins, check_columns, most_pieces};
 use crate::sources::Sources;
 use fill::Columns;
 use refusals::{Refusal, check_list_length, check_room, check_size, check_sum};
+use scratch::with_scratch;
 use words::WordSource;
 
 /// A partition, whose seats and pieces stand in what was lent: how many pieces there are, and how many words of each source were read.
@@ -73,28 +74,24 @@ impl PartitionSampler {
             });
         }
         let bins = check_bins(sum, b)?;
-        if n <= 64 && b <= 64 {
-            in_scratch::<A, B, 64, 64>(stakes, bins, &mut words, seats, columns)
-        } else if n <= 1024 {
-            in_scratch::<A, B, 1024, 1024>(stakes, bins, &mut words, seats, columns)
-        } else {
-            in_scratch::<A, B, 4096, 1024>(stakes, bins, &mut words, seats, columns)
-        }
+        with_scratch(
+            n + b,
+            0,
+            &mut |space| draw_in(space, stakes, bins, &mut words, seats, columns),
+        )
     }
 }
 
-// In scratch space for up to N stakes and K seats, since zeroing what is not needed costs time. That N and K are small is asked, as no
-// type says it.
-fn in_scratch<A: WordSource, B: WordSource, const N: usize, const K: usize>(
+// A partition, drawn in scratch space for the shuffled order and the seats.
+fn draw_in<A: WordSource, B: WordSource>(
+    space: &mut [u64],
     stakes: &[u64],
     bins: Bins,
     words: &mut Sources<A, B>,
     seats: &mut [u64],
     columns: &mut Columns,
 ) -> Result<Partition, Refusal>
-    requires small { (N ≤ 4096) × (K ≤ 1024) }
-    requires stakes { length stakes.now ≤ N }
-    requires drawn { bins.number ≤ K }
+    requires space { length space.old ≡ length stakes.now + bins.number }
     requires fillable { Fillable (sum stakes.now) bins }
     requires seats { bins.number ≤ length seats.old }
     requires room { HaveRoom columns.old (length stakes.now + bins.number) }
@@ -103,10 +100,7 @@ fn in_scratch<A: WordSource, B: WordSource, const N: usize, const K: usize>(
         (or_no_word (over_bins stakes.now bins.capacity bins.number (A.words words.old.first) (B.words words.old.second))) }
     ensures same { SameLoans columns.old columns.new }
 {
-    let mut order = [0; N];
-    let mut drawn = [0; K];
-    let order = &mut order[..stakes.len()];
-    let drawn = &mut drawn[..bins.number];
+    let (order, drawn) = space.split_at_mut(stakes.len());
     let before = words.words_left();
     let pieces = draw_bins(stakes, bins, words, order, drawn, columns).ok_or(Refusal::NoWordLeft)?;
     seats[..bins.number].copy_from_slice(drawn);

@@ -19,6 +19,7 @@ pub fn with_scratch<T: Copy, R, F: FnMut(&mut [T]) -> R>(n: usize, fill: T, run:
         ..=256 => in_scratch::<T, R, F, 256>(n, fill, run),
         ..=1088 => in_scratch::<T, R, F, 1088>(n, fill, run),
         ..=2048 => in_scratch::<T, R, F, 2048>(n, fill, run),
+        ..=3072 => in_scratch::<T, R, F, 3072>(n, fill, run),
         ..=4160 => in_scratch::<T, R, F, 4160>(n, fill, run),
         ..=5120 => in_scratch::<T, R, F, 5120>(n, fill, run),
         _ => in_scratch::<T, R, F, 9216>(n, fill, run),
