@@ -59,7 +59,7 @@ impl Fallback {
 /// A sampler that gives each validator the whole number of seats in its share, and draws the others.
 #[derive(Clone, Copy, Debug, PartialEq, Eq)]
 pub struct FaitAccompli1Sampler {
-    // An enum and no type parameter: a committee sampler names its fallback, and the fallback's numbers stay in the sampler's record.
+    // An enum and no type parameter, so that one type serves both constructors of the original, and the C functions of both.
     fallback: Fallback,
 }
 
