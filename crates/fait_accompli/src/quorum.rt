@@ -116,10 +116,11 @@ impl FaitAccompli1Sampler {
         check_room(seats.len(), k)?;
         self.fallback.check_pieces(columns, n)?;
         let total = check_sum(stakes)?;
+        let division = Division::new(k as u64, total);
         with_scratch(
             2 * n + k,
             0,
-            &mut |space| self.draw_in(space, stakes, total, &mut words, seats, columns),
+            &mut |space| self.draw_in(space, stakes, division, &mut words, seats, columns),
         )
     }
 
@@ -128,16 +129,14 @@ impl FaitAccompli1Sampler {
         self,
         space: &mut [u64],
         stakes: &[u64],
-        total: u64,
+        division: Division,
         words: &mut Sources<A, B>,
         seats: &mut [u64],
         columns: &mut Columns,
     ) -> Result<Committee, Refusal>
         requires space { length space.old ≡ length stakes.now + (length stakes.now + size_of self.fallback) }
-        requires sum { total ≡ sum stakes.now }
-        requires some { 0 < total }
-        requires seat { 0 < size_of self.fallback }
-        requires few { size_of self.fallback ≤ 1024 }
+        requires sum { division.total ≡ sum stakes.now }
+        requires size { division.seats ≡ size_of self.fallback }
         requires seats { size_of self.fallback ≤ length seats.old }
         requires room { Roomy self.fallback columns.old (length stakes.now) (size_of self.fallback) }
         ensures told { (result, (seats.new, held_of columns.new))
@@ -149,7 +148,7 @@ impl FaitAccompli1Sampler {
         let (space, rest) = space.split_at_mut(n);
         let (kept, drawn) = rest.split_at_mut(n);
         let before = words.words_left();
-        let fixed = seat_fixed(stakes, Division::new(k as u64, total), drawn, kept);
+        let fixed = seat_fixed(stakes, division, drawn, kept);
         let kept = Summed {
             stakes: kept,
             total: fixed.stake,
