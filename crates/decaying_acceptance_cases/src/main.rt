@@ -1,8 +1,7 @@
 //! Replays stored cases of the sampler of `decaying_acceptance`, and prints for each operation how many agree.
 #![tactic(auto)]
 
-ghost use Rattle.std.specs.Prelude.{◌≡◌, ◌≤◌, ◌↔◌, length, IfSome, IsTrue};
-ghost use Rattle.decaying_acceptance_cases.specs.Counts.{AreLeft};
+ghost use Rattle.std.specs.Prelude.{◌≡◌, ◌≤◌, length, IfSome};
 
 use cases::{Cases, Reader, SEATS, STAKES, WORDS};
 use decaying_acceptance::DecayingAcceptanceSampler;
@@ -12,7 +11,7 @@ use std::io;
 use std::num::f64_from_bits_with_nan;
 use words::ListWords;
 
-// A text of so many bytes is too long.
+// A text of so many bytes is too long. A test of the stored texts reads it in each program.
 const ROOM: usize = 262144;
 
 // Numbers as counts; `None` where one exceeds a u32.
@@ -26,38 +25,28 @@ fn counts_of(numbers: &[u64], alloc: Global) -> Option<Vec<u32>>
     Some(counts)
 }
 
-// Whether the whole of the lent counts is as it is to be: these numbers at the front, and past them what they were before.
-fn are_left(counts: &[u32], before: &[u64], front: &[u64]) -> bool
-    ensures { IsTrue result ↔ AreLeft counts.now before.now front.now }
-{
-    counts.len() == before.len()
-        && front.len() <= counts.len()
-        && (0..front.len()).all(|at| u64::from(counts[at]) == front[at])
-        && (front.len()..counts.len()).all(|at| u64::from(counts[at]) == before[at])
-}
-
 // One validator. The numbers are max_samples by its bits, the tries allowed and the cursor; the case expects the id, the tries and the
 // words read, then the counts.
 fn one_agrees(text: &mut Reader, alloc: Global) -> Option<bool>
     ensures { length text.new ≤ length text.old }
 {
-    let numbers = text.numbers::<3>()?;
+    let [max_samples, allowed, cursor] = text.numbers::<3>()?;
     let stakes = text.list(STAKES, alloc)?;
     let before = text.list(STAKES, alloc)?;
     let list = text.list(WORDS, alloc)?;
     let expected = text.expected::<3>()?;
     let counted = text.list_if(expected.is_ok(), STAKES, alloc)?;
     let mut counts = counts_of(&before, alloc)?;
-    let words = ListWords::new(&list, numbers[2] as usize);
+    let words = ListWords::new(&list, cursor as usize);
     let sampler = DecayingAcceptanceSampler::new(
-        f64_from_bits_with_nan(numbers[0]),
-        numbers[1] as usize,
+        f64_from_bits_with_nan(max_samples),
+        allowed as usize,
         1,
     );
     let answer = sampler.sample_one(&stakes, &mut counts, words);
     let told = answer.map(|s| [s.id.inner(), s.tries as u64, s.words_read as u64]);
     let same = told.map_err(|refusal| refusal.number()) == expected;
-    Some(same && are_left(&counts, &before, &counted))
+    Some(same && cases::holds(&counts, &before, &counted))
 }
 
 // A committee. The numbers are k, max_samples by its bits, the tries allowed, the cursor and how many seats are lent; the case expects the
@@ -65,7 +54,7 @@ fn one_agrees(text: &mut Reader, alloc: Global) -> Option<bool>
 fn quorum_agrees(text: &mut Reader, alloc: Global) -> Option<bool>
     ensures { length text.new ≤ length text.old }
 {
-    let numbers = text.numbers::<5>()?;
+    let [k, max_samples, allowed, cursor, places] = text.numbers::<5>()?;
     let stakes = text.list(STAKES, alloc)?;
     let before = text.list(STAKES, alloc)?;
     let list = text.list(WORDS, alloc)?;
@@ -73,14 +62,16 @@ fn quorum_agrees(text: &mut Reader, alloc: Global) -> Option<bool>
     let seated = text.list_if(expected.is_ok(), SEATS, alloc)?;
     let counted = text.list_if(expected.is_ok(), STAKES, alloc)?;
     let mut counts = counts_of(&before, alloc)?;
-    let mut seats = cases::lent(numbers[4], SEATS, alloc)?;
-    let words = ListWords::new(&list, numbers[3] as usize);
-    let (max_samples, allowed) = (f64_from_bits_with_nan(numbers[1]), numbers[2] as usize);
-    let sampler = DecayingAcceptanceSampler::new(max_samples, allowed, numbers[0] as usize);
+    let lent = cases::lent(places, SEATS, alloc)?;
+    let mut seats = lent.clone().ok()?;
+    let words = ListWords::new(&list, cursor as usize);
+    let max_samples = f64_from_bits_with_nan(max_samples);
+    let sampler = DecayingAcceptanceSampler::new(max_samples, allowed as usize, k as usize);
     let answer = sampler.sample_quorum(&stakes, &mut counts, words, &mut seats);
     let told = answer.map(|quorum| [quorum.tries as u64, quorum.words_read as u64]);
     let same = told.map_err(|refusal| refusal.number()) == expected;
-    Some(same && cases::holds(&seats, &seated) && are_left(&counts, &before, &counted))
+    let same_seats = cases::holds(&seats, &lent, &seated);
+    Some(same && same_seats && cases::holds(&counts, &before, &counted))
 }
 
 // A reset: the counts before, and after it all of them.
@@ -92,7 +83,7 @@ fn reset_agrees(text: &mut Reader, alloc: Global) -> Option<bool>
     let counted = text.list_if(refusal == 0, STAKES, alloc)?;
     let mut counts = counts_of(&before, alloc)?;
     DecayingAcceptanceSampler::new(1.0, 1, 1).reset(&mut counts);
-    Some(refusal == 0 && counted.len() == counts.len() && are_left(&counts, &before, &counted))
+    Some(refusal == 0 && counted.len() == counts.len() && cases::holds(&counts, &before, &counted))
 }
 
 struct DecayingCases;

@@ -1,11 +1,14 @@
 -- Running sums, and the place that a value chooses among them.
-use Rattle.std.proofs.Common.{◌≡◌, ℕ, zero, suc, ◌+◌, ◌-◌, ◌<◌, ◌≤◌, ◌^◌, List, [], ◌∷◌, length, get_or, take, refl, ap, sym, subst, ◌∙◌, arith, lt-ltb, le-ltb, ne_eqb, Ok}
+use Rattle.std.proofs.Common.{◌≡◌, ℕ, zero, suc, ◌+◌, ◌-◌, ◌<◌, ◌≤◌, ◌^◌, List, [], ◌∷◌, ◌++◌, length, get_or, set, take, drop, take_at, refl, ap, sym, subst, ◌∙◌, arith, lt-ltb, le-ltb}
 use Rattle.std.proofs.Math.Seq.{take-length}
-use borrow.Author.Tests.{lt-leb}
-use Rattle.refusals.specs.Refusal.{first_of, sum_checks, unless}
 use Rattle.std.specs.Prelude.{sum}
 use Rattle.std.proofs.lemmas.List.Sums.{sum_by-cons}
-use Rattle.laws.specs.Sums.{running_from}
+use Rattle.laws.specs.Sums.{running_from, running_sums}
+use Rattle.laws.specs.Buffers.{written}
+use Rattle.laws.proofs.Sums.{total-take-suc, running_at}
+use Rattle.laws.proofs.Std.{total_is_sum}
+use Rattle.laws.proofs.Buffers.{Stored, stored_next}
+use native.Mathlib.Numerals.{add-one}
 use Rattle.draws.specs.Laws.{WeightsHoldRunningSums}
 use Rattle.draws.specs.Sums.{differences, NeverFallFrom, AreSums}
 use Rattle.draws.proofs.WeightedLemmas.{IsChosen, chosen_is}
@@ -26,19 +29,6 @@ last_sum [] total are_sums = absurd (let h = are_sums.some in let e = are_sums.i
 last_sum (s ∷ sums) total are_sums =
     let last : length (s ∷ sums) - 1 ≡ length sums = omega arith in
     (omega arith, rw last (omega (arith, sum-differences 0 s sums are_sums.never_fall, are_sums.is)))
-
--- the sums of all weights up to each are their running sums
-pub differences-from_totals : (before : ℕ) (weights sums : List ℕ) → length weights ≡ length sums →
-    ((k : ℕ) → k < length sums → get_or sums k 0 ≡ before + sum (take (suc k) weights)) → (differences before sums ≡ weights) × NeverFallFrom before sums
-differences-from_totals before [] [] same totals = (refl, tt)
-differences-from_totals before [] (s ∷ sums) same totals = absurd (omega arith)
-differences-from_totals before (w ∷ weights) [] same totals = absurd (omega arith)
-differences-from_totals before (w ∷ weights) (s ∷ sums) same totals =
-    let here : s ≡ before + w = omega (arith, totals 0 (omega arith)) in
-    let rest = differences-from_totals s weights sums (omega arith)
-    (λ k within. let one_more = sum_by-cons (λ x. x) w (take (suc k) weights) in omega (arith, totals (suc k) (omega arith))) in
-    let first : s - before ≡ w = omega arith in
-    (rw (first, rest.0), (omega arith, rest.1))
 
 never_fall_from : (before : ℕ) (sums : List ℕ) → NeverFallFrom before sums → (k : ℕ) → k < length sums → before ≤ get_or sums k 0
 never_fall_from before [] never_fall k within = absurd (omega arith)
@@ -116,33 +106,60 @@ pub place_made : (weights : List ℕ) (v at before : ℕ) → Found weights v at
     ◌≡◌ {A = Place} (record { at = at; remainder = v - before }) (place_of weights v)
 place_made weights v at before there is = rw (is, there.is) refl
 
-pub sums_from_totals : (weights sums : List ℕ) → length weights ≡ length sums → ((k : ℕ) → k < length sums → get_or sums k 0 ≡ sum (take (k + 1) weights)) →
-    (differences 0 sums ≡ weights) × NeverFallFrom 0 sums
-sums_from_totals weights sums same totals =
-    differences-from_totals 0 weights sums same
-    (λ k within. let one_more : k + 1 ≡ suc k = omega arith in omega (arith, totals k within, ap (λ n. sum (take n weights)) one_more))
-
 -- what a loop over the weights keeps, before weight i
-pub record SummedTo (i s : ℕ) (weights sums : List ℕ) : Type 0 where
-  pub within : i ≤ length weights
+pub record SummedTo (i s : ℕ) (weights held sums : List ℕ) : Type 0 where
   pub fits : s < 2 ^ 64
   pub total : s ≡ sum (take i weights)
-  pub totals : (k : ℕ) → k < i → get_or sums k 0 ≡ sum (take (k + 1) weights)
+  pub stored : Stored (running_sums weights) held sums i
 
--- what stands after the last weight, where the sum is not 0
-pub record Finished (weights sums : List ℕ) (total : ℕ) : Type 0 where
-  pub are_sums : AreSums sums total
-  pub answer : Ok (differences 0 sums) ≡ unless (first_of (sum_checks weights)) (Ok weights)
+length_running : (before : ℕ) (weights : List ℕ) → length (running_from before weights) ≡ length weights
+length_running before [] = refl
+length_running before (w ∷ weights) = ap suc (length_running (before + w) weights)
 
-pub finished : (i s : ℕ) (weights sums : List ℕ) → SummedTo i s weights sums → length weights ≡ length sums → length weights ≤ i → (s ≡ 0 → ⊥) → Finished weights sums s
-finished i s weights sums to same end some =
-    let all : take i weights ≡ weights = ap (λ n. take n weights) (omega (arith, to.within)) ∙ take-length weights in
-    let whole : s ≡ sum weights = to.total ∙ ap sum all in
-    let known = sums_from_totals weights sums same (λ k h. to.totals k (omega arith)) in
+pub summed_next : (i s next : ℕ) (weights held sums : List ℕ) → SummedTo i s weights held sums → i < length weights → length weights ≤ length held →
+    next ≡ s + get_or weights i 0 → next < 2 ^ 64 → SummedTo (i + 1) next weights held (set sums i next)
+summed_next i s next weights held sums to within room is fits =
+    let long = length_running 0 weights in
+    let total_is : next ≡ sum (take (suc i) weights) = omega (arith, is, to.total, total-take-suc weights i within, total_is_sum (take i weights), total_is_sum (take (suc i) weights)) in
+    let here : get_or (running_sums weights) i 0 ≡ next = omega (arith, running_at 0 weights i within, total_is, total_is_sum (take (suc i) weights)) in
     record {
-      are_sums = record { never_fall = known.1; is = rw known.0 whole; some = omega arith };
-      answer = rw (known.0, lt-leb (2 ^ 64) (sum weights) (omega (arith, to.fits)), ne_eqb (sum weights) 0 (λ e. some (whole ∙ e)));
+      fits = fits;
+      total = rw (add-one i) total_is;
+      stored = subst (λ (x : ℕ). Stored (running_sums weights) held (set sums i x) (i + 1)) here (stored_next 0 (omega (arith, long)) (omega (arith, long)) to.stored);
     }
+
+-- after the last weight
+pub record Summed (s : ℕ) (weights held sums : List ℕ) : Type 0 where
+  pub total : s ≡ sum weights
+  pub stored : sums ≡ written (running_sums weights) held
+
+pub summed : (i s : ℕ) (weights held sums : List ℕ) → SummedTo i s weights held sums → length weights ≤ i → Summed s weights held sums
+summed i s weights held sums to end =
+    let long = length_running 0 weights in
+    let at_end : i ≡ length (running_sums weights) = omega (arith, to.stored.within, long) in
+    record {
+      total = to.total ∙ ap sum (ap (λ n. take n weights) (at_end ∙ long) ∙ take-length weights);
+      stored = to.stored.holds ∙ ap (λ n. take n (running_sums weights) ++ drop n held) at_end ∙ ap (λ (xs : List ℕ). xs ++ drop (length (running_sums weights)) held) (take-length (running_sums weights));
+    }
+
+differences_running : (before : ℕ) (weights : List ℕ) → differences before (running_from before weights) ≡ weights
+differences_running before [] = refl
+differences_running before (w ∷ weights) = let here : before + w - before ≡ w = omega arith in rw here (ap (w ∷◌) (differences_running (before + w) weights))
+
+running_never_fall : (before : ℕ) (weights : List ℕ) → NeverFallFrom before (running_from before weights)
+running_never_fall before [] = tt
+running_never_fall before (w ∷ weights) = (omega arith, running_never_fall (before + w) weights)
+
+-- running sums at the front of a buffer hold their weights
+pub record Held (weights sums : List ℕ) (total : ℕ) : Type 0 where
+  pub are_sums : AreSums sums total
+  pub shown : differences 0 sums ≡ weights
+
+pub held_by : (weights held sums : List ℕ) (total : ℕ) → sums ≡ written (running_sums weights) held → total ≡ sum weights → 0 < total → Held weights (take (length weights) sums) total
+held_by weights held sums total is whole some =
+    let front : take (length weights) sums ≡ running_sums weights = rw is (take_at (running_sums weights) _ (length weights) (length_running 0 weights)) in
+    let shown = differences_running 0 weights in
+    rw front (record { are_sums = record { never_fall = running_never_fall 0 weights; is = rw shown whole; some = some }; shown = shown })
 
 running_back : (before : ℕ) (sums : List ℕ) → NeverFallFrom before sums → sums ≡ running_from before (differences before sums)
 running_back before [] never_fall = refl

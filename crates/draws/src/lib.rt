@@ -10,4 +10,4 @@ mod weighted;
 pub use below::draw_below;
 pub use fraction::draw_fraction;
 pub use shuffle::shuffle_list;
-pub use weighted::{Place, Weights, draw_weighted, walked_place};
+pub use weighted::{Place, Weights, draw_weighted, running_sums, walked_place};

@@ -1,4 +1,7 @@
-ghost use Rattle.std.specs.Prelude.{◌≡◌, ◌<◌, ◌≤◌, Ok, IfSome, length, take, sum};
+ghost use Rattle.std.specs.Prelude.{◌≡◌, ◌<◌, ◌≤◌, Ok, IfSome, OnSome, length, take, sum};
+ghost use Rattle.types.specs.Stake.{checked};
+ghost use Rattle.laws.specs.Buffers.{written};
+ghost use Rattle.laws.specs.Sums.{running_sums};
 ghost use Rattle.refusals.specs.Refusal.{first_of, sum_checks, unless};
 ghost use Rattle.draws.specs.Weighted.{place_of, weighted, Placed};
 
@@ -15,6 +18,20 @@ pub struct Place {
     pub at: usize,
     /// The value less the running sum before the place: below the weight there.
     pub remainder: u64,
+}
+
+/// Writes the running sums of the weights to the front of `sums`, a place for each: the sum of all, `None` where it passes 64 bits.
+pub fn running_sums(weights: &[u64], sums: &mut [u64]) -> Option<u64>
+    requires { length weights.now ≤ length sums.old }
+    ensures sum { result ≡ checked (sum weights.now) }
+    ensures sums { OnSome result (sums.new ≡ written (running_sums weights.now) sums.old) }
+{
+    let mut sum: u64 = 0;
+    for (i, weight) in weights.iter().enumerate() {
+        sum = sum.checked_add(*weight)?;
+        sums[i] = sum;
+    }
+    Some(sum)
 }
 
 /// Weights that do not sum to 0, held by their running sums and their total.
@@ -36,23 +53,20 @@ impl<'a> Model for Weights<'a> {
 }
 
 impl<'a> Weights<'a> {
-    /// Sums up the weights into the front of `sums`, a place for each. Refused with `SumPast` where they sum past 64 bits, and with
-    /// `TotalZero` where to 0.
-    // What `sums` then holds is told by the type: its view and its invariant, and `weights_hold_running_sums`.
+    /// Weights held by their running sums, which are written to the front of `sums`, a place for each. Refused with `SumPast` where they
+    /// sum past 64 bits, and with `TotalZero` where to 0.
     pub fn new(weights: &[u64], sums: &'a mut [u64]) -> Result<Self, Refusal>
         requires { length weights.now ≤ length sums.old }
         ensures { result ≡ unless (first_of (sum_checks weights.now)) (Ok weights.now) }
     {
-        let sums = &mut sums[..weights.len()];
-        let mut sum: u64 = 0;
-        for (i, weight) in weights.iter().enumerate() {
-            sum = sum.checked_add(*weight).ok_or(Refusal::SumPast)?;
-            sums[i] = sum;
-        }
-        if sum == 0 {
+        let total = running_sums(weights, sums).ok_or(Refusal::SumPast)?;
+        if total == 0 {
             return Err(Refusal::TotalZero);
         }
-        Ok(Weights { sums, total: sum })
+        Ok(Weights {
+            sums: &sums[..weights.len()],
+            total,
+        })
     }
 
     /// The sum of the weights.
@@ -88,8 +102,8 @@ impl<'a> Weights<'a> {
     }
 }
 
-/// The place that a value chooses, by a walk over the weights: one draw alone needs no running sums.
-// The walk ends by its own condition, at a weight that is more than what remains: there is no range to go over.
+/// The place that a value chooses, by a walk over the weights: it needs no space for running sums.
+// By `while`, since the walk ends at a weight by its own condition: after a `for` an answer would be due that no value has.
 #[tactic(auto, using(crate::proofs::WeightedLemmas::walked_to))]
 pub fn walked_place(weights: &[u64], v: u64) -> Place
     requires { v < sum weights.now }

@@ -2,9 +2,10 @@
 use Rattle.std.specs.Prelude.{ℕ, ◌+◌, Result, Ok, Err, List, [], ◌∷◌, ◌++◌, length, sum}
 use Rattle.refusals.specs.declared.refusal.Refusal.{Refusal}
 use Rattle.refusals.specs.Refusal.{Check, first_of, list_length, size_of_some, short_buffer, sum_checks, empty_bin}
+use Rattle.laws.specs.Buffers.{written}
 use Rattle.words.specs.Draw.{words_read}
 use Rattle.partition.specs.Partition.{capacity, short_pieces, seat_ids, Given, turned, or_no_word, Held, columns_of}
-use Rattle.partition.specs.Calls.{Lent, written}
+use Rattle.partition.specs.Calls.{Lent}
 use Rattle.fixed_seats.specs.Fixed.{kept_of, further}
 use Rattle.fait_accompli.specs.declared.quorum.Fallback.{Fallback}
 use Rattle.fait_accompli.specs.declared.quorum.Fallback.TheVariants.{Bins, Draws}

@@ -1,6 +1,6 @@
 ghost use Rattle.std.specs.Prelude.{◌≡◌, ◌+◌, ◌≤◌, ◌<◌, length, sum};
 ghost use Rattle.refusals.specs.Refusal.{first_of};
-ghost use Rattle.fill.specs.Columns.{HaveRoom, SameLoans};
+ghost use Rattle.fill.specs.Columns.{SameLoans};
 ghost use Rattle.partition.specs.Partition.{held_of};
 ghost use Rattle.fait_accompli.specs.declared.quorum.Fallback.TheVariants.{Bins, Draws};
 ghost use Rattle.fait_accompli.specs.Seats.{size_of, Roomy};
@@ -9,8 +9,9 @@ ghost use Rattle.fait_accompli.specs.Calls.{piece_checks, committee_over, told, 
 use crate::further::{Summed, draw_further};
 use fill::Columns;
 use fixed_seats::{Division, seat_fixed};
-use partition::check_columns;
+use partition::{Sources, check_columns};
 use refusals::{Refusal, check_list_length, check_room, check_size_of_some, check_sum};
+use scratch::with_scratch;
 use words::WordSource;
 
 /// A committee, whose seats and pieces stand in what was lent: how many seats are not fixed, how many pieces there are, and how many words
@@ -58,7 +59,7 @@ impl Fallback {
 /// A sampler that gives each validator the whole number of seats in its share, and draws the others.
 #[derive(Clone, Copy, Debug, PartialEq, Eq)]
 pub struct FaitAccompli1Sampler {
-    // An enum and no type parameter: a committee sampler names its fallback, and the fallback's numbers stay in the sampler's record.
+    // An enum and no type parameter, so that one type serves both constructors of the original, and the C functions of both.
     fallback: Fallback,
 }
 
@@ -108,74 +109,59 @@ impl FaitAccompli1Sampler {
             ≡ sample_quorum self stakes.now (seats.old, held_of columns.old) (A.words first) (B.words second) }
         ensures same { SameLoans columns.old columns.new }
     {
-        let (mut first, mut second) = (first, second);
+        let mut words = Sources { first, second };
         let (n, k) = (stakes.len(), self.fallback.size());
         check_list_length(n)?;
         check_size_of_some(k)?;
         check_room(seats.len(), k)?;
         self.fallback.check_pieces(columns, n)?;
-        let sum = check_sum(stakes)?;
-        let list = Summed { stakes, sum };
-        if n <= 64 && k <= 64 {
-            self.in_scratch::<A, B, 64, 64>(list, &mut first, &mut second, seats, columns)
-        } else if n <= 1024 {
-            self.in_scratch::<A, B, 1024, 1024>(list, &mut first, &mut second, seats, columns)
-        } else {
-            self.in_scratch::<A, B, 4096, 1024>(list, &mut first, &mut second, seats, columns)
-        }
+        let total = check_sum(stakes)?;
+        let division = Division::new(k as u64, total);
+        with_scratch(
+            2 * n + k,
+            0,
+            &mut |space| self.draw_in(space, stakes, division, &mut words, seats, columns),
+        )
     }
 
-    // A committee in scratch space for up to N stakes and K seats, since zeroing what is not needed costs time. That N and K are small is
-    // asked, as no type says it.
-    fn in_scratch<A: WordSource, B: WordSource, const N: usize, const K: usize>(
+    // A committee, drawn in scratch space for the shuffled order or the running sums, the stakes kept, and the seats.
+    fn draw_in<A: WordSource, B: WordSource>(
         self,
-        list: Summed,
-        first: &mut A,
-        second: &mut B,
+        space: &mut [u64],
+        stakes: &[u64],
+        division: Division,
+        words: &mut Sources<A, B>,
         seats: &mut [u64],
         columns: &mut Columns,
     ) -> Result<Committee, Refusal>
-        requires small { (N ≤ 4096) × (K ≤ 1024) }
-        requires stakes { length list.stakes.now ≤ N }
-        requires drawn { size_of self.fallback ≤ K }
-        requires seat { 0 < size_of self.fallback }
-        requires sum { list.sum ≡ sum list.stakes.now }
-        requires some { 0 < list.sum }
+        requires space { length space.old ≡ length stakes.now + (length stakes.now + size_of self.fallback) }
+        requires sum { division.total ≡ sum stakes.now }
+        requires size { division.seats ≡ size_of self.fallback }
         requires seats { size_of self.fallback ≤ length seats.old }
-        requires room { Roomy self.fallback columns.old (length list.stakes.now) (size_of self.fallback) }
+        requires room { Roomy self.fallback columns.old (length stakes.now) (size_of self.fallback) }
         ensures told { (result, (seats.new, held_of columns.new))
-            ≡ told self.fallback list.entry.stakes.now (seats.old, held_of columns.old) (A.words first.old) (B.words second.old)
-            (committee_over self.fallback list.entry.stakes.now (A.words first.old) (B.words second.old)) }
+            ≡ told self.fallback stakes.now (seats.old, held_of columns.old) (A.words words.old.first) (B.words words.old.second)
+            (committee_over self.fallback stakes.now (A.words words.old.first) (B.words words.old.second)) }
         ensures same { SameLoans columns.old columns.new }
     {
-        let (n, k) = (list.stakes.len(), self.fallback.size());
-        let mut space = [0; N];
-        let mut kept = [0; N];
-        let mut drawn = [0; K];
-        let kept = &mut kept[..n];
-        let drawn = &mut drawn[..k];
-        let (first_left, second_left) = (first.words_left(), second.words_left());
-        let fixed = seat_fixed(list.stakes, Division::new(k as u64, list.sum), drawn, kept);
+        let (n, k) = (stakes.len(), self.fallback.size());
+        let (space, rest) = space.split_at_mut(n);
+        let (kept, drawn) = rest.split_at_mut(n);
+        let before = words.words_left();
+        let fixed = seat_fixed(stakes, division, drawn, kept);
         let kept = Summed {
             stakes: kept,
-            sum: fixed.stake,
+            total: fixed.stake,
         };
         let others = &mut drawn[fixed.seats..];
-        let pieces = draw_further(
-            self.fallback,
-            kept,
-            first,
-            second,
-            &mut space[..n],
-            others,
-            columns,
-        )?;
+        let pieces = draw_further(self.fallback, kept, words, space, others, columns)?;
         seats[..k].copy_from_slice(drawn);
+        let (first_words_read, second_words_read) = words.read_since(before);
         Ok(Committee {
             further: k - fixed.seats,
             pieces,
-            first_words_read: first_left.saturating_sub(first.words_left()),
-            second_words_read: second_left.saturating_sub(second.words_left()),
+            first_words_read,
+            second_words_read,
         })
     }
 }

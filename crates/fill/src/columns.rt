@@ -1,7 +1,7 @@
 use crate::piece::Piece;
 
 /// Three lent columns: the bins, the validators and the stakes of pieces. They are three, since a caller in C lends them so. Each contract
-/// says that they are the same loans, since a model would hide them from the lender.
+/// says that they are the same loans: a model would hide them from the lender, and a fact in the struct can't speak of an earlier value.
 #[derive(Debug, Drop)]
 pub struct Columns<'a> {
     pub bins: &'a mut [u64],

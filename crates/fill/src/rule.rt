@@ -40,7 +40,7 @@ pub fn fill(
     let mut room = capacity;
     let mut at = 0;
     let mut used: u64 = 0;
-    // A stake may be split among bins, so a step is a piece and no item of a list.
+    // By `while`, since a stake may be split among bins: a step is a piece, and a `for` over the order would need a second loop inside it.
     while at < order.len() {
         let validator = order[at];
         let stake = weights[validator as usize] - used;

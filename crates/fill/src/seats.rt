@@ -7,7 +7,9 @@ ghost use Rattle.fill.specs.Values.{bin_sums, Low, choices, rows_of, replaced};
 use crate::columns::Columns;
 use crate::rule::fill;
 
-// Puts in the place of each bin's value the validator that it chooses. A value counts from the first piece of its bin on.
+// Puts in the place of each bin's value the validator that it chooses. A value counts from the first piece of its bin on. Called, and not
+// written out, as `draw_values` is.
+#[inline(never)]
 #[tactic(auto, using(crate::proofs::ChooseLemmas::replaced_step, crate::proofs::ChooseLemmas::replaced_end, crate::proofs::ChooseLemmas::replaced_full))]
 fn choose(columns: &Columns, pieces: usize, seats: &mut [u64])
     requires { HaveRoom columns.now pieces }
@@ -21,8 +23,8 @@ fn choose(columns: &Columns, pieces: usize, seats: &mut [u64])
     let stakes: &[u64] = columns.stakes;
     let mut next = 0;
     let mut value = seats[0];
-    // By index: the three columns are read at one place, and the next seat moves by itself. With the bin compared before the value, a
-    // call over 4,096 stakes took a tenth longer.
+    // By index: three columns zipped would be pairs of pairs, and the next seat moves by itself. With the bin compared before the value,
+    // a call over 4,096 stakes took a tenth longer.
     for at in 0..pieces {
         let here = bins[at] == next as u64;
         let stake = stakes[at];

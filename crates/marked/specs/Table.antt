@@ -85,7 +85,7 @@ two_f = fin false 1 (pos 1)
 
 -- one seat of a single validator with count 1, where one try is allowed: the word 0 draws the validator, the other the fraction
 abbrev count_one : ℕ → List ℕ
-count_one word = told_seat (one (record { max_samples = two_f; tries_allowed = 1; k = 0 }) (1 ∷ []) (1 ∷ []) (0 ∷ word ∷ []))
+count_one word = told_seat (one (record { limits = record { max_samples = two_f; tries_allowed = 1 }; k = 0 }) (1 ∷ []) (1 ∷ []) (0 ∷ word ∷ []))
 
 abbrev pub table : List Row
 table =

@@ -6,11 +6,13 @@ ghost use Rattle.partition.specs.Partition.{held_of, over_bins, placed, Fillable
 ghost use Rattle.fill.specs.Columns.{HaveRoom, SameLoans};
 
 use crate::checks::Bins;
+use crate::sources::Sources;
 use draws::shuffle_list;
 use fill::{Columns, draw_values, fill_and_choose};
 use words::WordSource;
 
 // The ids from 0 on.
+#[tactic(auto, using(crate::proofs::BinLemmas::count_more))]
 fn count_up(order: &mut [u64])
     ensures { order.new ≡ ids_from 0 (length order.old) }
 {
@@ -19,7 +21,8 @@ fn count_up(order: &mut [u64])
     }
 }
 
-// The ids from 0 on, shuffled.
+// The ids from 0 on, shuffled. Called, and not written out, as `draw_values` of `fill` is.
+#[inline(never)]
 fn shuffle_ids<W: WordSource>(words: &mut W, order: &mut [u64]) -> Option<()>
     ensures shuffled { (result, order.new, W.words words.new) ≡ shuffle (ids_from 0 (length order.old)) (W.words words.old) }
     ensures permutation { IsPermutation (ids_from 0 (length order.old)) order.new }
@@ -30,11 +33,13 @@ fn shuffle_ids<W: WordSource>(words: &mut W, order: &mut [u64]) -> Option<()>
 
 /// One seat from each of the bins: the weights are shuffled by the first words, the seats are drawn by the second, and then the pieces
 /// are written. Gives their number; `None` where the words run out, which leaves the columns as they were.
+// Seats and columns in one struct would be no plainer: the columns are those lent, but the seats are scratch space and no lent ones, so
+// the entries would take the struct apart and build another for each call.
+#[tactic(auto, using(crate::proofs::BinLemmas::ids_low, crate::proofs::BinLemmas::enough_room))]
 pub fn draw_bins<A: WordSource, B: WordSource>(
     weights: &[u64],
     bins: Bins,
-    first: &mut A,
-    second: &mut B,
+    words: &mut Sources<A, B>,
     order: &mut [u64],
     seats: &mut [u64],
     columns: &mut Columns,
@@ -43,12 +48,12 @@ pub fn draw_bins<A: WordSource, B: WordSource>(
     requires order { length order.old ≡ length weights.now }
     requires seats { length seats.old ≡ bins.number }
     requires room { HaveRoom columns.old (length weights.now + bins.number) }
-    ensures drawn { (option_map (λ n. (n, seats.new)) result, held_of columns.new, A.words first.new, B.words second.new)
+    ensures drawn { (option_map (λ n. (n, seats.new)) result, held_of columns.new, A.words words.new.first, B.words words.new.second)
         ≡ placed (held_of columns.old)
-        (over_bins weights.now bins.capacity bins.number (A.words first.old) (B.words second.old)) }
+        (over_bins weights.now bins.capacity bins.number (A.words words.old.first) (B.words words.old.second)) }
     ensures same { SameLoans columns.old columns.new }
 {
-    shuffle_ids(first, order)?;
-    draw_values(second, bins.capacity, bins.sum, seats)?;
+    shuffle_ids(&mut words.first, order)?;
+    draw_values(&mut words.second, bins.capacity, bins.sum, seats)?;
     Some(fill_and_choose(weights, order, bins.capacity, columns, seats))
 }

@@ -1,4 +1,4 @@
-ghost use Rattle.std.specs.Prelude.{◌≡◌, ◌≤◌, ◌<◌, [], ◌∷◌, length, Ok, IfOk};
+ghost use Rattle.std.specs.Prelude.{◌≡◌, ◌≤◌, ◌<◌, [], ◌∷◌, Ok, IfOk};
 ghost use Rattle.refusals.specs.Refusal.{first_of, empty_bin, unless};
 ghost use Rattle.partition.specs.Partition.{held_of, short_pieces, most_pieces, capacity, Fillable};
 

@@ -5,8 +5,10 @@ ghost use Rattle.fill.specs.Columns.{HaveRoom, SameLoans};
 
 use crate::bins::draw_bins;
 use crate::checks::{Bins, check_bins, check_columns, most_pieces};
+use crate::sources::Sources;
 use fill::Columns;
 use refusals::{Refusal, check_list_length, check_room, check_size, check_sum};
+use scratch::with_scratch;
 use words::WordSource;
 
 /// A partition, whose seats and pieces stand in what was lent: how many pieces there are, and how many words of each source were read.
@@ -57,7 +59,7 @@ impl PartitionSampler {
             ≡ sample_quorum self stakes.now (seats.old, held_of columns.old) (A.words first) (B.words second) }
         ensures same { SameLoans columns.old columns.new }
     {
-        let (mut first, mut second) = (first, second);
+        let mut words = Sources { first, second };
         let (n, b) = (stakes.len(), self.num_bins);
         check_list_length(n)?;
         check_size(b)?;
@@ -72,50 +74,41 @@ impl PartitionSampler {
             });
         }
         let bins = check_bins(sum, b)?;
-        if n <= 64 && b <= 64 {
-            in_scratch::<A, B, 64, 64>(stakes, bins, &mut first, &mut second, seats, columns)
-        } else if n <= 1024 {
-            in_scratch::<A, B, 1024, 1024>(stakes, bins, &mut first, &mut second, seats, columns)
-        } else {
-            in_scratch::<A, B, 4096, 1024>(stakes, bins, &mut first, &mut second, seats, columns)
-        }
+        with_scratch(
+            n + b,
+            0,
+            &mut |space| draw_in(space, stakes, bins, &mut words, seats, columns),
+        )
     }
 }
 
-// In scratch space for up to N stakes and K seats, since zeroing what is not needed costs time. That N and K are small is asked, as no
-// type says it.
-fn in_scratch<A: WordSource, B: WordSource, const N: usize, const K: usize>(
+// A partition, drawn in scratch space for the shuffled order and the seats.
+fn draw_in<A: WordSource, B: WordSource>(
+    space: &mut [u64],
     stakes: &[u64],
     bins: Bins,
-    first: &mut A,
-    second: &mut B,
+    words: &mut Sources<A, B>,
     seats: &mut [u64],
     columns: &mut Columns,
 ) -> Result<Partition, Refusal>
-    requires small { (N ≤ 4096) × (K ≤ 1024) }
-    requires stakes { length stakes.now ≤ N }
-    requires drawn { bins.number ≤ K }
+    requires space { length space.old ≡ length stakes.now + bins.number }
     requires fillable { Fillable (sum stakes.now) bins }
     requires seats { bins.number ≤ length seats.old }
     requires room { HaveRoom columns.old (length stakes.now + bins.number) }
     ensures told { (result, (seats.new, held_of columns.new))
-        ≡ told (seats.old, held_of columns.old) (A.words first.old) (B.words second.old)
-        (or_no_word (over_bins stakes.now bins.capacity bins.number (A.words first.old) (B.words second.old))) }
+        ≡ told (seats.old, held_of columns.old) (A.words words.old.first) (B.words words.old.second)
+        (or_no_word (over_bins stakes.now bins.capacity bins.number (A.words words.old.first) (B.words words.old.second))) }
     ensures same { SameLoans columns.old columns.new }
 {
-    let mut order = [0; N];
-    let mut drawn = [0; K];
-    let order = &mut order[..stakes.len()];
-    let drawn = &mut drawn[..bins.number];
-    let (first_left, second_left) = (first.words_left(), second.words_left());
-    let pieces = draw_bins(stakes, bins, first, second, order, drawn, columns).ok_or(
-        Refusal::NoWordLeft,
-    )?;
+    let (order, drawn) = space.split_at_mut(stakes.len());
+    let before = words.words_left();
+    let pieces = draw_bins(stakes, bins, words, order, drawn, columns).ok_or(Refusal::NoWordLeft)?;
     seats[..bins.number].copy_from_slice(drawn);
+    let (first_words_read, second_words_read) = words.read_since(before);
     Ok(Partition {
         pieces,
-        first_words_read: first_left.saturating_sub(first.words_left()),
-        second_words_read: second_left.saturating_sub(second.words_left()),
+        first_words_read,
+        second_words_read,
     })
 }
 

@@ -55,4 +55,4 @@ calls_committee k stakes held ws = answered (quorum stakes k (length held) ws) (
     answered (Err refusal, left) are = tt
     answered (Ok places, left) are =
         let known = ids_committee k stakes places (are places left refl) in
-        rw (take_at (ids places) (drop (length places) held) k known.size) known
+        rw (take_at (ids places) (drop (length (ids places)) held) k known.size) known

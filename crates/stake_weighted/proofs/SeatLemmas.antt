@@ -1,13 +1,10 @@
 -- Drawing seats, one at a time, and what a call says of them.
 use Rattle.std.proofs.Common.{◌≡◌, ℕ, suc, ◌+◌, ◌-◌, ◌<◌, Option, Some, None, List, [], ◌∷◌, ◌++◌, length, take, refl, arith, append_assoc}
 use Rattle.words.specs.Draw.{and_then}
+use Rattle.words.proofs.FrontLemmas.{with_front}
 use Rattle.draws.specs.declared.weighted.Place.{Place}
 use Rattle.draws.specs.Weighted.{weighted, ids}
 use Rattle.stake_weighted.specs.Seats.{iid, iid_seats}
-
--- seats that are drawn already, before those of a draw
-abbrev pub with_front : List ℕ → Option (List ℕ) × List ℕ → Option (List ℕ) × List ℕ
-with_front front draw = and_then draw (λ seats left. (Some (front ++ seats), left))
 
 -- one seat more: it goes to the end of the front
 pub with_front_step : (seats : List ℕ) (i : ℕ) (weights ws : List ℕ) → i < length seats →

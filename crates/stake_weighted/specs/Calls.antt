@@ -1,7 +1,8 @@
 -- What a call gives: the first refusal from its input, else the draws.
-use Rattle.std.specs.Prelude.{ℕ, Result, Ok, Err, List, [], ◌∷◌, ◌++◌, length, drop}
+use Rattle.std.specs.Prelude.{ℕ, Result, Ok, Err, List, [], ◌∷◌, ◌++◌, length}
 use Rattle.refusals.specs.declared.refusal.Refusal.{Refusal}
 use Rattle.refusals.specs.Refusal.{Check, first_of, list_length, size, short_buffer, sum_checks}
+use Rattle.laws.specs.Buffers.{written}
 use Rattle.words.specs.Draw.{words_read}
 use Rattle.draws.specs.declared.weighted.Place.{Place}
 use Rattle.draws.specs.Weighted.{weighted, ids}
@@ -44,7 +45,7 @@ quorum stakes k room ws = after_checks (first_of (quorum_checks stakes k room)) 
 abbrev pub quorum_answer : List ℕ → List ℕ → Result (List Place) Refusal × List ℕ → Result Quorum Refusal × List ℕ
 quorum_answer held ws (Err refusal, left) = (Err refusal, held)
 quorum_answer held ws (Ok places, left) =
-    (Ok (record { words_read = words_read ws left }), ids places ++ drop (length places) held)
+    (Ok (record { words_read = words_read ws left }), written (ids places) held)
 
 -- a call of `sample_quorum`
 abbrev pub sample_quorum : ℕ → List ℕ → List ℕ → List ℕ → Result Quorum Refusal × List ℕ

@@ -1,4 +1,4 @@
-ghost use Rattle.std.specs.Prelude.{◌≡◌, ◌≤◌, length};
+ghost use Rattle.std.specs.Prelude.{◌≡◌, ◌≤◌, ◌+◌, length};
 ghost use Rattle.std.specs.Option.{option_map};
 ghost use Rattle.refusals.specs.Refusal.{first_of, sum_checks};
 ghost use Rattle.draws.specs.Call.{after_checks, or_no_word};
@@ -8,6 +8,7 @@ ghost use Rattle.stake_weighted.specs.Calls.{quorum_answer, sample_quorum};
 use crate::sample::StakeWeightedSampler;
 use draws::{Weights, draw_weighted};
 use refusals::{Refusal, check_list_length, check_room, check_size};
+use scratch::with_scratch;
 use words::WordSource;
 
 /// A committee, whose seats stand in the lent buffer: how many words were read.
@@ -52,40 +53,32 @@ impl IidQuorumSampler {
         check_size(k)?;
         check_room(seats.len(), k)?;
         let mut words = words;
-        match (n, k) {
-            (..=64, ..=64) => self.in_scratch::<W, 64, 64>(stakes, &mut words, seats),
-            (..=64, _) => self.in_scratch::<W, 64, 1024>(stakes, &mut words, seats),
-            (..=1024, ..=64) => self.in_scratch::<W, 1024, 64>(stakes, &mut words, seats),
-            (..=1024, _) => self.in_scratch::<W, 1024, 1024>(stakes, &mut words, seats),
-            (_, ..=64) => self.in_scratch::<W, 4096, 64>(stakes, &mut words, seats),
-            _ => self.in_scratch::<W, 4096, 1024>(stakes, &mut words, seats),
-        }
+        with_scratch(
+            n + k,
+            0,
+            &mut |space| self.draw_in(space, stakes, &mut words, seats),
+        )
     }
 
-    // A committee in scratch space for up to N stakes and K seats, since zeroing what is not needed costs time. That N and K are small is
-    // asked, as no type says it.
-    fn in_scratch<W: WordSource, const N: usize, const K: usize>(
+    // A committee, drawn in scratch space for the running sums and the seats.
+    fn draw_in<W: WordSource>(
         self,
+        space: &mut [u64],
         stakes: &[u64],
         words: &mut W,
         seats: &mut [u64],
     ) -> Result<Quorum, Refusal>
-        requires small { (N ≤ 4096) × (K ≤ 1024) }
-        requires stakes { length stakes.now ≤ N }
-        requires drawn { self.k ≤ K }
+        requires space { length space.old ≡ length stakes.now + self.k }
         requires seats { self.k ≤ length seats.old }
         ensures { (result, seats.new)
             ≡ quorum_answer seats.old (W.words words.old)
             (after_checks (first_of (sum_checks stakes.now)) (W.words words.old) (or_no_word (iid self.k stakes.now (W.words words.old)))) }
     {
-        let k = self.k;
-        let mut sums = [0; N];
-        let mut drawn = [0; K];
-        let weights = Weights::new(stakes, &mut sums[..stakes.len()])?;
+        let (sums, drawn) = space.split_at_mut(stakes.len());
+        let weights = Weights::new(stakes, sums)?;
         let before = words.words_left();
-        let drawn = &mut drawn[..k];
         draw_seats(words, weights, drawn).ok_or(Refusal::NoWordLeft)?;
-        seats[..k].copy_from_slice(drawn);
+        seats[..self.k].copy_from_slice(drawn);
         Ok(Quorum {
             words_read: before.saturating_sub(words.words_left()),
         })

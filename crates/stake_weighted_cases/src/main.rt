@@ -9,7 +9,7 @@ use std::alloc::Global;
 use std::io;
 use words::ListWords;
 
-// A text of so many bytes is too long.
+// A text of so many bytes is too long. A test of the stored texts reads it in each program.
 const ROOM: usize = 262144;
 
 // One validator. The case's number is the cursor; it expects the id and the words read.
@@ -30,18 +30,19 @@ fn sample_agrees(text: &mut Reader, alloc: Global) -> Option<bool>
 fn quorum_agrees(text: &mut Reader, alloc: Global) -> Option<bool>
     ensures { length text.new ≤ length text.old }
 {
-    let numbers = text.numbers::<3>()?;
+    let [k, cursor, places] = text.numbers::<3>()?;
     let stakes = text.list(STAKES, alloc)?;
     let list = text.list(WORDS, alloc)?;
     let expected = text.expected::<1>()?;
     let seated = text.list_if(expected.is_ok(), SEATS, alloc)?;
-    let mut seats = cases::lent(numbers[2], SEATS, alloc)?;
-    let words = ListWords::new(&list, numbers[1] as usize);
-    let sampler = IidQuorumSampler::new(StakeWeightedSampler::new(), numbers[0] as usize);
+    let before = cases::lent(places, SEATS, alloc)?;
+    let mut seats = before.clone().ok()?;
+    let words = ListWords::new(&list, cursor as usize);
+    let sampler = IidQuorumSampler::new(StakeWeightedSampler::new(), k as usize);
     let answer = sampler.sample_quorum(&stakes, words, &mut seats);
     let told = answer.map(|quorum| [quorum.words_read as u64]);
     let same = told.map_err(|refusal| refusal.number()) == expected;
-    Some(same && cases::holds(&seats, &seated))
+    Some(same && cases::holds(&seats, &before, &seated))
 }
 
 struct StakeWeightedCases;

@@ -2,7 +2,9 @@
 use Rattle.std.proofs.Common.{◌≡◌, ℕ, zero, suc, ◌+◌, ◌-◌, ◌*◌, ◌^◌, ◌≤◌, ◌<◌, List, length, take, get_or, sum, ap, ◌∙◌, arith, Bool, true, false, refl, mul-le-mul_right, leb-true, leb-false}
 use Rattle.std.specs.Prelude.{nat_le}
 use Rattle.std.proofs.lemmas.List.{take_all}
+use Rattle.std.proofs.lemmas.List.Sums.{sum_by-take-le}
 use Rattle.draws.specs.Weighted.{chosen}
+use Rattle.draws.proofs.WeightedLemmas.{chosen_at}
 use Rattle.tree.specs.declared.node.Node.{Node}
 use Rattle.tree.specs.declared.node.Field.{Field}
 use Rattle.tree.specs.Node.{Falls}
@@ -12,7 +14,7 @@ use Rattle.tree.specs.declared.tree.Tree.{Tree}
 use Rattle.tree.specs.declared.tree.Found.{Found}
 use Rattle.tree.specs.Holds.{weights_of, found, Holds}
 use Rattle.tree.proofs.NodeLemmas.{next_sum}
-use Rattle.tree.proofs.SumLemmas.{before-mono, before-all, before-le, place_is}
+use Rattle.tree.proofs.SumLemmas.{before-mono, before-all}
 use Rattle.tree.proofs.SizeLemmas.{power_is, levels_apart, shape}
 
 pub sixteenfold : (r b : ℕ) → r * 16 ^ suc b ≡ 16 * r * 16 ^ b
@@ -99,7 +101,7 @@ module _ (ws : List ℕ) (nodes : List Node) (v index val weight d r b : ℕ) (t
       let total = node_total ws (get_or nodes index no_node).sums (16 * r) (16 ^ b) full part in
       record {
         low = omega (arith, total, first, last);
-        fits = omega (arith, total, before-le ws ((16 * r + 16) * 16 ^ b), tree.fits);
+        fits = omega (arith, total, sum_by-take-le (λ w. w) ws ((16 * r + 16) * 16 ^ b), tree.fits);
         small = omega (arith, tree.size, (shape (length ws) tree.few).small);
       }
 
@@ -154,11 +156,12 @@ module _ (ws : List ℕ) (nodes : List Node) (v : ℕ) (tree : IsTree ws nodes) 
       go zero level back low weight_is some =
           let at = ap (before ws) (let one : to.r * 16 ^ zero ≡ to.r = omega arith in one) in
           let at_next = ap (before ws) (let next : (to.r + 1) * 16 ^ zero ≡ suc to.r = omega arith in next) in
-          let place = place_is ws v to.r (omega arith) (omega arith) (omega arith) in
+          let here = next_sum ws to.r (suc to.r) (omega arith) (omega arith) in
+          let place = chosen_at ws v to.r (record { within = omega arith; reached = omega arith; below_weight = omega (arith, here) }) in
           record {
             within = omega arith;
             index_is = omega (arith, to.index_is, ap above (let e : to.d ≡ suc (deep (length ws)) = omega arith in e));
-            weight_is = rw place (omega (arith, weight_is (omega arith), next_sum ws to.r (suc to.r) (omega arith) (omega arith)));
+            weight_is = rw place (omega (arith, weight_is (omega arith), here));
           }
 
 -- the same for a tree over lent nodes

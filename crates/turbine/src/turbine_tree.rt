@@ -1,6 +1,7 @@
 ghost use Rattle.std.specs.Prelude.{◌≡◌, ◌≤◌, ◌<◌, min, length, take};
 ghost use Rattle.turbine.specs.View.{neighborhood};
-ghost use Rattle.turbine.specs.Calls.{tree_of, written, turbine_tree};
+ghost use Rattle.laws.specs.Buffers.{written};
+ghost use Rattle.turbine.specs.Calls.{tree_of, turbine_tree};
 
 use crate::neighborhood::{parent_at, position_of, write_children};
 use refusals::{Refusal, check_below, check_fanout, check_list_length, check_room};

@@ -1,8 +1,7 @@
 //! Replays stored cases of Turbine views, of seeds and of relays, and prints for each function how many agree.
 #![tactic(auto)]
 
-ghost use Rattle.std.specs.Prelude.{◌≡◌, ◌≤◌, ◌↔◌, length, IsTrue};
-ghost use Rattle.turbine_cases.specs.Seeds.{IsWritten};
+ghost use Rattle.std.specs.Prelude.{◌≡◌, ◌≤◌, length};
 
 use cases::{Cases, Reader, SEATS, STAKES, WORDS};
 use refusals::Refusal;
@@ -14,7 +13,7 @@ use turbine::{DEFAULT_FANOUT, TurbineTree, View};
 use types::ValidatorIndex;
 use words::ListWords;
 
-// A text of so many bytes is too long.
+// A text of so many bytes is too long. A test of the stored texts reads it in each program.
 const ROOM: usize = 524288;
 
 // The most bytes of a seed of a case.
@@ -31,18 +30,22 @@ fn constants()
     ensures total_shreds_value { TOTAL_SHREDS ≡ 64 }
 {}
 
-// Whether a view has these numbers, the root, 1 and the parent's id or zeros, and the words read, and names these children.
-fn is_view(view: View, numbers: [u64; 4], children: &[u64], named: &[u64]) -> bool {
-    let tree = view.tree;
-    let parent = tree.get_parent();
-    tree.get_root().inner() == numbers[0]
-        && u64::from(parent.is_some()) == numbers[1]
-        && parent.map_or(0, |id| id.inner()) == numbers[2]
-        && view.words_read as u64 == numbers[3]
-        && tree.get_children(children) == named
+// A view's numbers as a stored text writes them: the root, 1 and the parent's id or two zeros, and the words read.
+fn told(view: View) -> [u64; 4] {
+    let (named, parent) = match view.tree.get_parent() {
+        Some(id) => (1, id.inner()),
+        None => (0, 0),
+    };
+    [
+        view.tree.get_root().inner(),
+        named,
+        parent,
+        view.words_read as u64,
+    ]
 }
 
-// Whether a call answers as stated.
+// Whether a call answers as stated and, where it is accepted, names these children. By a `match`: the check of borrows does not cover a
+// view that is used again after `map`.
 fn answers(
     view: Result<View, Refusal>,
     expected: Result<[u64; 4], u64>,
@@ -50,7 +53,7 @@ fn answers(
     named: &[u64],
 ) -> bool {
     match view {
-        Ok(view) => expected.is_ok_and(|numbers| is_view(view, numbers, children, named)),
+        Ok(view) => expected == Ok(told(view)) && view.tree.get_children(children) == named,
         Err(refusal) => expected == Err(refusal.number()),
     }
 }
@@ -60,57 +63,53 @@ fn answers(
 fn view_agrees(text: &mut Reader, alloc: Global) -> Option<bool>
     ensures { length text.new ≤ length text.old }
 {
-    let numbers = text.numbers::<6>()?;
+    let [fanout, own_id, cursor, places, nodes_lent, most_children] = text.numbers::<6>()?;
     let stakes = text.list(STAKES, alloc)?;
     let list = text.list(WORDS, alloc)?;
     let expected = text.expected::<4>()?;
     let named = text.list_if(expected.is_ok(), STAKES, alloc)?;
     let ordered = text.list_if(expected.is_ok(), STAKES, alloc)?;
-    let mut order = cases::lent(numbers[3], STAKES, alloc)?;
-    let mut children = cases::lent(numbers[5], STAKES, alloc)?;
+    let order_before = cases::lent(places, STAKES, alloc)?;
+    let children_before = cases::lent(most_children, STAKES, alloc)?;
+    let mut order = order_before.clone().ok()?;
+    let mut children = children_before.clone().ok()?;
     let mut nodes = [nodes_cases::filled(HELD); 280];
-    let lent = numbers[4].min(280) as usize;
+    let lent = nodes_lent.min(280) as usize;
     let view = TurbineTree::new(
         &stakes,
-        numbers[0] as usize,
-        ValidatorIndex::new(numbers[1]),
-        ListWords::new(&list, numbers[2] as usize),
+        fanout as usize,
+        ValidatorIndex::new(own_id),
+        ListWords::new(&list, cursor as usize),
         &mut order,
         &mut nodes[..lent],
         &mut children,
     );
     let same = answers(view, expected, &children, &named);
     let same_nodes = nodes_cases::left_so(&nodes, expected.is_ok(), stakes.len(), HELD);
-    let same_lists = cases::holds(&order, &ordered) && cases::holds(&children, &named);
+    let same_lists = cases::holds(&order, &order_before, &ordered)
+        && cases::holds(&children, &children_before, &named);
     Some(same && same_nodes && same_lists)
 }
 
-// Whether a seed has these bytes at its front, and past them what it held before.
-fn is_written(seed: &[u8], front: &[u64]) -> bool
-    ensures { IsTrue result ↔ IsWritten seed.now front.now }
-{
-    front.len() <= seed.len()
-        && (0..front.len()).all(|at| u64::from(seed[at]) == front[at])
-        && (front.len()..seed.len()).all(|at| seed[at] == HELD_BYTE)
-}
-
-// The seed of a shred's Turbine tree or, else, of a slice's relays. The numbers are the slot, the shred or slice, and how many bytes are
-// lent; the case expects the bytes.
-fn seed_agrees(turbine: bool, text: &mut Reader, alloc: Global) -> Option<bool>
+// A seed, by its function. The numbers are the slot, the shred or slice, and how many bytes are lent; the case expects the bytes.
+fn seed_agrees<F: FnOnce(u64, u64, &mut [u8]) -> Result<(), Refusal>>(
+    write_seed: F,
+    text: &mut Reader,
+    alloc: Global,
+) -> Option<bool>
+    requires callable { F.IsAlwaysCallable write_seed }
     ensures { length text.new ≤ length text.old }
 {
-    let numbers = text.numbers::<3>()?;
+    let [slot, part, places] = text.numbers::<3>()?;
     let refusal = text.number()?;
     let wanted = text.list_if(refusal == 0, BYTES, alloc)?;
+    let lent = places.min(BYTES) as usize;
+    let before = [u64::from(HELD_BYTE); 64];
     let mut seed = [HELD_BYTE; 64];
-    let seed = &mut seed[..numbers[2].min(BYTES) as usize];
-    let answer = if turbine {
-        turbine_seed(numbers[0], numbers[1], seed)
-    } else {
-        rotor_seed(numbers[0], numbers[1], seed)
-    };
+    let seed = &mut seed[..lent];
+    let answer = write_seed(slot, part, seed);
     let told = answer.map_or_else(|refusal| refusal.number(), |()| 0);
-    Some(told == refusal && is_written(seed, &wanted))
+    Some(told == refusal && cases::holds(seed, &before[..lent], &wanted))
 }
 
 // A relay. The number is the shred's position; the case expects the relay's id.
@@ -132,8 +131,8 @@ impl Cases for TurbineCases {
         // A stored text names an operation by its number.
         match operation {
             1 => view_agrees(text, alloc),
-            2 => seed_agrees(true, text, alloc),
-            3 => seed_agrees(false, text, alloc),
+            2 => seed_agrees(turbine_seed, text, alloc),
+            3 => seed_agrees(rotor_seed, text, alloc),
             4 => relay_agrees(text, alloc),
             _ => None,
         }

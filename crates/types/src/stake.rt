@@ -64,8 +64,9 @@ impl Stake {
         self.0.checked_mul(rhs).map(Self::new)
     }
 
-    /// The sum of a list of stakes: `Sum`. None where it is above 2^64 - 1. Carries are counted: one test at the end takes less time
-    /// than one for each stake.
+    /// The sum of a list of stakes: `Sum`. None where it is above 2^64 - 1.
+    // Carries are counted, and tested once at the end. With a test for each stake (`checked_add` with `?`, or in a `try_fold`) a sum took
+    // from 8 % less to 94 % more time, by the length of the list and by where the loop came to lie in memory.
     pub fn sum(stakes: &[u64]) -> Option<Self>
         ensures { result ≡ checked (sum stakes.now) }
     {

@@ -3,12 +3,24 @@ ghost use Rattle.partition.specs.Calls.{Lent};
 ghost use Rattle.partition.specs.Calls as partition;
 ghost use Rattle.fait_accompli.specs.declared.quorum.Fallback.TheVariants.{Bins, Draws};
 ghost use Rattle.fait_accompli.specs.Calls as committee;
-ghost use Rattle.valwydr.specs.Told.{partition_told, committee_values, committee_told, without_columns};
+ghost use Rattle.valwydr.specs.Told.{partition_values, partition_told, committee_values, committee_told, without_columns};
 
+use crate::tell::tell;
 use fait_accompli::{Committee, FaitAccompli1Sampler};
 use fill::Columns;
-use partition::PartitionSampler;
+use partition::{Partition, PartitionSampler};
 use words::ListWords;
+
+// What the answer of a partition carries.
+fn partition_values(partition: Partition) -> [u64; 3]
+    ensures { result ≡ partition_values partition }
+{
+    [
+        partition.pieces as u64,
+        partition.first_words_read as u64,
+        partition.second_words_read as u64,
+    ]
+}
 
 /// One seat from each bin, written to the front of `seats`; the pieces in fill order are written to the front of the columns. The answer:
 /// the number of pieces, the words read of each list.
@@ -40,17 +52,8 @@ pub extern "C" fn valwydr_partition_sample_quorum(
     let first = ListWords::new(first, first_cursor);
     let second = ListWords::new(second, second_cursor);
     let sampler = PartitionSampler::new(num_bins);
-    match sampler.sample_quorum(stakes, first, second, seats, &mut columns) {
-        Ok(partition) => {
-            *answer = [
-                partition.pieces as u64,
-                partition.first_words_read as u64,
-                partition.second_words_read as u64,
-            ];
-            0
-        }
-        Err(refusal) => refusal.number(),
-    }
+    let call = sampler.sample_quorum(stakes, first, second, seats, &mut columns);
+    tell(call.map(partition_values), answer)
 }
 
 // What the answer of a committee carries.
@@ -95,13 +98,8 @@ pub extern "C" fn valwydr_fait_accompli1_with_partition_fallback(
     let first = ListWords::new(first, first_cursor);
     let second = ListWords::new(second, second_cursor);
     let sampler = FaitAccompli1Sampler::new_with_partition_fallback(k);
-    match sampler.sample_quorum(stakes, first, second, seats, &mut columns) {
-        Ok(committee) => {
-            *answer = committee_values(committee);
-            0
-        }
-        Err(refusal) => refusal.number(),
-    }
+    let call = sampler.sample_quorum(stakes, first, second, seats, &mut columns);
+    tell(call.map(committee_values), answer)
 }
 
 /// A committee of `k`: the fixed seats, then plain draws. The answer: how many seats are not fixed, 0 for the pieces, the words read, and 0
@@ -127,11 +125,6 @@ pub extern "C" fn valwydr_fait_accompli1_with_stake_weighted_fallback(
     let words = ListWords::new(list, cursor);
     let none = ListWords::new(&[], 0);
     let sampler = FaitAccompli1Sampler::new_with_stake_weighted_fallback(k);
-    match sampler.sample_quorum(stakes, words, none, seats, &mut columns) {
-        Ok(committee) => {
-            *answer = committee_values(committee);
-            0
-        }
-        Err(refusal) => refusal.number(),
-    }
+    let call = sampler.sample_quorum(stakes, words, none, seats, &mut columns);
+    tell(call.map(committee_values), answer)
 }

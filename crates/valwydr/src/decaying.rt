@@ -1,9 +1,21 @@
 ghost use Rattle.std.specs.Prelude.{◌≡◌, length, drop, replicate};
 ghost use Rattle.decaying_acceptance.specs.Calls.{sample_one, sample_quorum};
-ghost use Rattle.valwydr.specs.Told.{tried_told, tried_quorum_told};
+ghost use Rattle.valwydr.specs.Told.{tried_values, tried_told, tried_quorum_values, tried_quorum_told};
 
-use decaying_acceptance::DecayingAcceptanceSampler;
+use crate::tell::tell;
+use decaying_acceptance::{DecayingAcceptanceSampler, Quorum, Sample};
 use words::ListWords;
+
+// What the answer of a draw carries.
+fn tried_values(sample: Sample) -> [u64; 3]
+    ensures { result ≡ tried_values sample }
+{
+    [
+        sample.id.inner(),
+        sample.tries as u64,
+        sample.words_read as u64,
+    ]
+}
 
 /// One validator, whose count rises by 1. The answer: its id, the tries made, the words read.
 #[unsafe(no_mangle)]
@@ -18,20 +30,19 @@ pub extern "C" fn valwydr_decaying_acceptance_sample_one(
 ) -> u64
     ensures { (result, answer.new, counts.new)
         ≡ tried_told answer.old
-        (sample_one (record { max_samples = max_samples; tries_allowed = tries_allowed; k = 1 }) stakes.now counts.old (drop cursor list.now)) }
+        (sample_one (record { limits = record { max_samples = max_samples; tries_allowed = tries_allowed }; k = 1 })
+        stakes.now counts.old (drop cursor list.now)) }
 {
     let sampler = DecayingAcceptanceSampler::new(max_samples, tries_allowed, 1);
-    match sampler.sample_one(stakes, counts, ListWords::new(list, cursor)) {
-        Ok(sample) => {
-            *answer = [
-                sample.id.inner(),
-                sample.tries as u64,
-                sample.words_read as u64,
-            ];
-            0
-        }
-        Err(refusal) => refusal.number(),
-    }
+    let call = sampler.sample_one(stakes, counts, ListWords::new(list, cursor));
+    tell(call.map(tried_values), answer)
+}
+
+// What the answer of a committee carries.
+fn tried_quorum_values(quorum: Quorum) -> [u64; 2]
+    ensures { result ≡ tried_quorum_values quorum }
+{
+    [quorum.tries as u64, quorum.words_read as u64]
 }
 
 /// A committee of `k`, written to the front of `seats`; the counts of the list's validators are then 0. The answer: the tries made over all
@@ -51,16 +62,12 @@ pub extern "C" fn valwydr_decaying_acceptance_sample_quorum(
 ) -> u64
     ensures { (result, answer.new, counts.new, seats.new)
         ≡ tried_quorum_told answer.old
-        (sample_quorum (record { max_samples = max_samples; tries_allowed = tries_allowed; k = k }) stakes.now counts.old seats.old (drop cursor list.now)) }
+        (sample_quorum (record { limits = record { max_samples = max_samples; tries_allowed = tries_allowed }; k = k })
+        stakes.now counts.old seats.old (drop cursor list.now)) }
 {
     let sampler = DecayingAcceptanceSampler::new(max_samples, tries_allowed, k);
-    match sampler.sample_quorum(stakes, counts, ListWords::new(list, cursor), seats) {
-        Ok(quorum) => {
-            *answer = [quorum.tries as u64, quorum.words_read as u64];
-            0
-        }
-        Err(refusal) => refusal.number(),
-    }
+    let call = sampler.sample_quorum(stakes, counts, ListWords::new(list, cursor), seats);
+    tell(call.map(tried_quorum_values), answer)
 }
 
 /// Sets all the counts to 0.

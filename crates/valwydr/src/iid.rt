@@ -1,9 +1,17 @@
 ghost use Rattle.std.specs.Prelude.{◌≡◌, drop};
 ghost use Rattle.stake_weighted.specs.Calls.{sample, sample_quorum};
-ghost use Rattle.valwydr.specs.Told.{sample_told, quorum_told};
+ghost use Rattle.valwydr.specs.Told.{sample_values, sample_told, quorum_values, quorum_told};
 
-use stake_weighted::{IidQuorumSampler, StakeWeightedSampler};
+use crate::tell::tell;
+use stake_weighted::{IidQuorumSampler, Quorum, Sample, StakeWeightedSampler};
 use words::ListWords;
+
+// What the answer of a draw carries.
+fn sample_values(sample: Sample) -> [u64; 2]
+    ensures { result ≡ sample_values sample }
+{
+    [sample.id.inner(), sample.words_read as u64]
+}
 
 /// One validator. The answer: its id, the words read.
 #[unsafe(no_mangle)]
@@ -16,13 +24,15 @@ pub extern "C" fn valwydr_stake_weighted_sample(
     ensures { (result, answer.new) ≡ sample_told answer.old (sample stakes.now (drop cursor list.now)) }
 {
     let sampler = StakeWeightedSampler::new();
-    match sampler.sample(stakes, ListWords::new(list, cursor)) {
-        Ok(sample) => {
-            *answer = [sample.id.inner(), sample.words_read as u64];
-            0
-        }
-        Err(refusal) => refusal.number(),
-    }
+    let call = sampler.sample(stakes, ListWords::new(list, cursor));
+    tell(call.map(sample_values), answer)
+}
+
+// What the answer of a committee carries.
+fn quorum_values(quorum: Quorum) -> [u64; 1]
+    ensures { result ≡ quorum_values quorum }
+{
+    [quorum.words_read as u64]
 }
 
 /// A committee of `k`, written to the front of `seats`. The answer: the words read.
@@ -39,11 +49,6 @@ pub extern "C" fn valwydr_iid_sample_quorum(
         ≡ quorum_told answer.old (sample_quorum k stakes.now seats.old (drop cursor list.now)) }
 {
     let sampler = IidQuorumSampler::new(StakeWeightedSampler::new(), k);
-    match sampler.sample_quorum(stakes, ListWords::new(list, cursor), seats) {
-        Ok(quorum) => {
-            *answer = [quorum.words_read as u64];
-            0
-        }
-        Err(refusal) => refusal.number(),
-    }
+    let call = sampler.sample_quorum(stakes, ListWords::new(list, cursor), seats);
+    tell(call.map(quorum_values), answer)
 }

@@ -2,12 +2,13 @@ ghost use Rattle.std.specs.Prelude.{◌≡◌, drop};
 ghost use Rattle.tree.specs.Sizes.{sizes};
 ghost use Rattle.weighted_shuffle.specs.Entry.{shuffle};
 ghost use Rattle.turbine.specs.Calls.{turbine_tree};
-ghost use Rattle.valwydr.specs.Told.{sizes_told, shuffle_told, view_told};
+ghost use Rattle.valwydr.specs.Told.{sizes_told, order_values, shuffle_told, view_values, view_told};
 
+use crate::tell::tell;
 use tree::{Node, get_num_nodes_and_tree_size};
-use turbine::TurbineTree;
+use turbine::{TurbineTree, View};
 use types::ValidatorIndex;
-use weighted_shuffle::shuffle;
+use weighted_shuffle::{Order, shuffle};
 use words::ListWords;
 
 // What stands for the parent of the root, which has none: C has no `Option`.
@@ -20,6 +21,13 @@ pub extern "C" fn valwydr_get_num_nodes_and_tree_size(count: usize, answer: &mut
 {
     let sizes = get_num_nodes_and_tree_size(count);
     *answer = [sizes.num_nodes as u64, sizes.tree_size as u64];
+}
+
+// What the answer of an order carries.
+fn order_values(order: Order) -> [u64; 1]
+    ensures { result ≡ order_values order }
+{
+    [order.words_read as u64]
 }
 
 /// The whole order of a list of weights, written to the front of `order`; the nodes of the tree are then zeros. The answer: the words read.
@@ -35,13 +43,21 @@ pub extern "C" fn valwydr_weighted_shuffle(
     ensures { (result, answer.new, order.new, nodes.new)
         ≡ shuffle_told answer.old (shuffle weights.now order.old nodes.old (drop cursor list.now)) }
 {
-    match shuffle(weights, ListWords::new(list, cursor), order, nodes) {
-        Ok(order) => {
-            *answer = [order.words_read as u64];
-            0
-        }
-        Err(refusal) => refusal.number(),
-    }
+    let call = shuffle(weights, ListWords::new(list, cursor), order, nodes);
+    tell(call.map(order_values), answer)
+}
+
+// What the answer of a view carries.
+fn view_values(view: View) -> [u64; 4]
+    ensures { result ≡ view_values view }
+{
+    let tree = view.tree;
+    [
+        tree.get_root().inner(),
+        tree.get_parent().map_or(NO_PARENT, ValidatorIndex::inner),
+        tree.num_children() as u64,
+        view.words_read as u64,
+    ]
 }
 
 /// What the validator `own_id` sees of the Turbine tree: the order and the children are written to the front of their buffers, and the nodes
@@ -64,17 +80,10 @@ pub extern "C" fn valwydr_turbine_tree_new(
 {
     let own = ValidatorIndex::new(own_id);
     let words = ListWords::new(list, cursor);
-    match TurbineTree::new(stakes, fanout, own, words, order, nodes, children) {
-        Ok(view) => {
-            let tree = view.tree;
-            *answer = [
-                tree.get_root().inner(),
-                tree.get_parent().map_or(NO_PARENT, ValidatorIndex::inner),
-                tree.num_children() as u64,
-                view.words_read as u64,
-            ];
-            0
-        }
-        Err(refusal) => refusal.number(),
-    }
+    // No `map`, as the check can't build its own part of the proof of one over a view.
+    let numbers = match TurbineTree::new(stakes, fanout, own, words, order, nodes, children) {
+        Ok(view) => Ok(view_values(view)),
+        Err(refusal) => Err(refusal),
+    };
+    tell(numbers, answer)
 }

@@ -1,20 +1,19 @@
 ghost use Rattle.std.specs.Prelude.{◌≡◌};
 ghost use Rattle.seeds.specs.Seeds.{turbine_seed, rotor_seed, write_seed};
 ghost use Rattle.rotor.specs.Relay.{sample_relay};
-ghost use Rattle.valwydr.specs.Told.{seed_told, relay_told};
+ghost use Rattle.valwydr.specs.Told.{seed_told, relay_values, relay_told};
 
+use crate::tell::tell;
 use rotor::sample_relay;
 use seeds::{rotor_seed, turbine_seed};
+use types::ValidatorIndex;
 
 /// The seed of the Turbine tree for a shred of a slot, written to the front of `seed`.
 #[unsafe(no_mangle)]
 pub extern "C" fn valwydr_turbine_seed(slot: u64, shred: u64, seed: &mut [u8]) -> u64
     ensures { (result, seed.new) ≡ seed_told (write_seed (turbine_seed slot shred) seed.old) }
 {
-    match turbine_seed(slot, shred, seed) {
-        Ok(()) => 0,
-        Err(refusal) => refusal.number(),
-    }
+    tell(turbine_seed(slot, shred, seed).map(|()| []), &mut [])
 }
 
 /// The seed of the relay committee for a slice of a slot, likewise.
@@ -22,10 +21,14 @@ pub extern "C" fn valwydr_turbine_seed(slot: u64, shred: u64, seed: &mut [u8]) -
 pub extern "C" fn valwydr_rotor_seed(slot: u64, slice: u64, seed: &mut [u8]) -> u64
     ensures { (result, seed.new) ≡ seed_told (write_seed (rotor_seed slot slice) seed.old) }
 {
-    match rotor_seed(slot, slice, seed) {
-        Ok(()) => 0,
-        Err(refusal) => refusal.number(),
-    }
+    tell(rotor_seed(slot, slice, seed).map(|()| []), &mut [])
+}
+
+// What the answer of a relay carries.
+fn relay_values(id: ValidatorIndex) -> [u64; 1]
+    ensures { result ≡ relay_values id }
+{
+    [id.inner()]
 }
 
 /// The relay of the shred at a position. The answer: its id.
@@ -37,11 +40,6 @@ pub extern "C" fn valwydr_sample_relay(
 ) -> u64
     ensures { (result, answer.new) ≡ relay_told answer.old (sample_relay committee.now shred) }
 {
-    match sample_relay(committee, shred) {
-        Ok(id) => {
-            *answer = [id.inner()];
-            0
-        }
-        Err(refusal) => refusal.number(),
-    }
+    let call = sample_relay(committee, shred);
+    tell(call.map(relay_values), answer)
 }

@@ -1,17 +1,17 @@
 ghost use Rattle.std.specs.Prelude.{◌+◌, ◌*◌, ◌≡◌, sum};
 ghost use Rattle.types.specs.Stake.{checked, checked_sub, checked_div_ceil};
 ghost use Rattle.types.specs.Decimal.{write_decimal};
-ghost use Rattle.valwydr.specs.Stored.{stake_told, digits_told};
+ghost use Rattle.valwydr.specs.Stored.{value_told, stake_told, digits_told};
 
 use types::{Stake, write_decimal};
 
-// Whether there is a stake, which is then stored.
-fn store(stake: Option<Stake>, stored: &mut u64) -> bool
-    ensures { (result, stored.new) ≡ stake_told stored.old stake }
+// Whether there is a value, which is then stored.
+fn store<T: Copy>(value: Option<T>, stored: &mut T) -> bool
+    ensures { (result, stored.new) ≡ value_told stored.old value }
 {
-    match stake {
-        Some(stake) => {
-            *stored = stake.inner();
+    match value {
+        Some(value) => {
+            *stored = value;
             true
         }
         None => false,
@@ -23,7 +23,10 @@ fn store(stake: Option<Stake>, stored: &mut u64) -> bool
 pub extern "C" fn valwydr_stake_div_ceil(stake: u64, divisor: u64, stored: &mut u64) -> bool
     ensures { (result, stored.new) ≡ stake_told stored.old (checked_div_ceil stake divisor) }
 {
-    store(Stake::new(stake).div_ceil(divisor), stored)
+    store(
+        Stake::new(stake).div_ceil(divisor).map(Stake::inner),
+        stored,
+    )
 }
 
 /// The sum of two stakes.
@@ -31,7 +34,8 @@ pub extern "C" fn valwydr_stake_div_ceil(stake: u64, divisor: u64, stored: &mut 
 pub extern "C" fn valwydr_stake_checked_add(stake: u64, rhs: u64, stored: &mut u64) -> bool
     ensures { (result, stored.new) ≡ stake_told stored.old (checked (stake + rhs)) }
 {
-    store(Stake::new(stake).checked_add(Stake::new(rhs)), stored)
+    let sum = Stake::new(stake).checked_add(Stake::new(rhs));
+    store(sum.map(Stake::inner), stored)
 }
 
 /// The difference of two stakes.
@@ -39,7 +43,8 @@ pub extern "C" fn valwydr_stake_checked_add(stake: u64, rhs: u64, stored: &mut u
 pub extern "C" fn valwydr_stake_sub(stake: u64, rhs: u64, stored: &mut u64) -> bool
     ensures { (result, stored.new) ≡ stake_told stored.old (checked_sub stake rhs) }
 {
-    store(Stake::new(stake).sub(Stake::new(rhs)), stored)
+    let difference = Stake::new(stake).sub(Stake::new(rhs));
+    store(difference.map(Stake::inner), stored)
 }
 
 /// The product of a stake and a number.
@@ -47,7 +52,7 @@ pub extern "C" fn valwydr_stake_sub(stake: u64, rhs: u64, stored: &mut u64) -> b
 pub extern "C" fn valwydr_stake_mul(stake: u64, rhs: u64, stored: &mut u64) -> bool
     ensures { (result, stored.new) ≡ stake_told stored.old (checked (stake * rhs)) }
 {
-    store(Stake::new(stake).mul(rhs), stored)
+    store(Stake::new(stake).mul(rhs).map(Stake::inner), stored)
 }
 
 /// The sum of a list of stakes.
@@ -55,20 +60,7 @@ pub extern "C" fn valwydr_stake_mul(stake: u64, rhs: u64, stored: &mut u64) -> b
 pub extern "C" fn valwydr_stake_sum(stakes: &[u64], stored: &mut u64) -> bool
     ensures { (result, stored.new) ≡ stake_told stored.old (checked (sum stakes.now)) }
 {
-    store(Stake::sum(stakes), stored)
-}
-
-// Whether the digits have room, which are then written, and their count stored.
-fn write(number: u64, buffer: &mut [u8], written: &mut usize) -> bool
-    ensures { (result, buffer.new, written.new) ≡ digits_told written.old (write_decimal number buffer.old) }
-{
-    match write_decimal(number, buffer) {
-        Some(count) => {
-            *written = count;
-            true
-        }
-        None => false,
-    }
+    store(Stake::sum(stakes).map(Stake::inner), stored)
 }
 
 /// The stake in decimal digits, written to the front of the buffer.
@@ -76,7 +68,7 @@ fn write(number: u64, buffer: &mut [u8], written: &mut usize) -> bool
 pub extern "C" fn valwydr_stake_fmt(stake: u64, buffer: &mut [u8], written: &mut usize) -> bool
     ensures { (result, buffer.new, written.new) ≡ digits_told written.old (write_decimal stake buffer.old) }
 {
-    write(stake, buffer, written)
+    store(write_decimal(stake, buffer), written)
 }
 
 /// A validator's id, likewise.
@@ -88,5 +80,5 @@ pub extern "C" fn valwydr_validator_index_fmt(
 ) -> bool
     ensures { (result, buffer.new, written.new) ≡ digits_told written.old (write_decimal id buffer.old) }
 {
-    write(id, buffer, written)
+    store(write_decimal(id, buffer), written)
 }

@@ -1,9 +1,9 @@
 -- The steps of a shuffle.
-use Rattle.std.proofs.Common.{nat_lt, ◌≡◌, ℕ, zero, suc, ◌+◌, ◌-◌, ◌≤◌, ◌<◌, Option, Some, None, List, [], ◌∷◌, ◌++◌, length, take, get_or, set, sum, replicate, refl, ap, ◌∙◌, arith, append_assoc, if◌then◌else◌}
+use Rattle.std.proofs.Common.{nat_lt, ◌≡◌, ℕ, zero, suc, ◌+◌, ◌-◌, ◌≤◌, ◌<◌, Option, Some, None, List, [], ◌∷◌, length, take, get_or, set, sum, replicate, refl, ap, ◌∙◌, arith, if◌then◌else◌}
 use Rattle.std.proofs.Common.{lt-ltb, le-ltb}
 use Rattle.std.proofs.lemmas.List.{get_or-set_same, get_or-set_other, length-set, take_more_set}
-use Rattle.std.proofs.lemmas.List.Sums.{sum_by-cons, sum_by-set, count_by-le-length}
-use Rattle.words.specs.Draw.{and_then}
+use Rattle.std.proofs.lemmas.List.Sums.{sum_by-cons, sum_by-set}
+use Rattle.words.proofs.FrontLemmas.{with_front, with_front-append}
 use Rattle.draws.specs.Below.{below}
 use Rattle.draws.specs.Weighted.{chosen}
 use Rattle.draws.proofs.WeightedLemmas.{chosen_placed}
@@ -14,14 +14,6 @@ use Rattle.tree.proofs.ZeroLemmas.{all_zeros}
 use Rattle.tree.specs.Holds.{weights_of, Holds, SameTree}
 use Rattle.weighted_shuffle.specs.Order.{Left, Step, step, steps}
 use Rattle.weighted_shuffle.specs.State.{heavy, from_end, left_of, step_to}
-
--- positions that are drawn already, before those of a draw
-abbrev pub with_front : List ℕ → Option (List ℕ) × List ℕ → Option (List ℕ) × List ℕ
-with_front front draw = and_then draw (λ ps left. (Some (front ++ ps), left))
-
-with_front-append : (xs ys : List ℕ) (draw : Option (List ℕ) × List ℕ) → with_front (xs ++ ys) draw ≡ with_front xs (with_front ys draw)
-with_front-append xs ys (None, left) = refl
-with_front-append xs ys (Some zs, left) = ap (λ (s : List ℕ). let o : Option (List ℕ) × List ℕ = (Some s, left) in o) (append_assoc xs ys zs)
 
 -- what the loop over the places keeps
 pub record Drawing (ws₀ drawn₀ : List ℕ) (words₀ : List ℕ) (tree₀ tree : Tree) (drawn words : List ℕ) (i : ℕ) : Type 0 where
@@ -139,21 +131,6 @@ pub front_none : (drawn : List ℕ) (i : ℕ) (left : Left) (words rest : List �
 front_none drawn i left words rest within stepped =
     let one_more : length drawn - i ≡ suc (length drawn - (i + 1)) = omega arith in
     rw (one_more, ← stepped)
-
-with_front-nil : (draw : Option (List ℕ) × List ℕ) → with_front [] draw ≡ draw
-with_front-nil (None, left) = refl
-with_front-nil (Some ps, left) = refl
-
-pub drawing_none : (tree : Tree) (drawn words : List ℕ) → Holds tree (weights_of tree) → length drawn ≡ tree.count → Drawing (weights_of tree) drawn words tree tree drawn words 0
-drawing_none tree drawn words holds room =
-    let all : length drawn - 0 ≡ length drawn = omega arith in
-    record {
-      holds = holds;
-      same = record { nodes = refl; count = refl; first = refl };
-      long = refl;
-      left = omega (arith, count_by-le-length (λ w. nat_lt 0 w) (weights_of tree), holds.count);
-      order = with_front-nil (steps (length drawn - 0) (left_of 0 (weights_of tree) drawn) words) ∙ ap (λ (n : ℕ). steps n (left_of 0 (weights_of tree) drawn) words) all;
-    }
 
 module _ {ws₀ drawn₀ words₀ drawn words : List ℕ} {tree₀ tree : Tree} {i : ℕ} (d : Drawing ws₀ drawn₀ words₀ tree₀ tree drawn words i) where
   pub drawing_next : (tree' : Tree) (drawn' words' : List ℕ) (p : ℕ) → i < length drawn → Holds tree' (weights_of tree') → SameTree tree tree' → length drawn' ≡ length drawn → i + 1 + heavy (weights_of tree') ≤ length drawn → take i drawn' ≡ take i drawn →

@@ -2,6 +2,7 @@
 use Rattle.std.specs.Prelude.{ℕ, Result, Ok, Err, List, [], ◌∷◌, ◌++◌, length, drop, replicate}
 use Rattle.refusals.specs.declared.refusal.Refusal.{Refusal}
 use Rattle.refusals.specs.Refusal.{Check, first_of, long_list, short_buffer}
+use Rattle.laws.specs.Buffers.{written}
 use Rattle.words.specs.Draw.{words_read}
 use Rattle.draws.specs.Call.{after_checks, or_no_word}
 use Rattle.tree.specs.declared.node.Node.{Node}
@@ -31,7 +32,7 @@ nodes_after size held = replicate size zero_node ++ drop size held
 abbrev pub answered : List ℕ → List ℕ → List Node → List ℕ → Result (List ℕ) Refusal × List ℕ → Result Order Refusal × List ℕ × List Node × List ℕ
 answered weights held nodes ws (Err refusal, left) = (Err refusal, held, nodes, left)
 answered weights held nodes ws (Ok ps, left) =
-    (Ok (record { words_read = words_read ws left }), ps ++ drop (length ps) held, nodes_after (tree_size (length weights)) nodes, left)
+    (Ok (record { words_read = words_read ws left }), written ps held, nodes_after (tree_size (length weights)) nodes, left)
 
 -- all but the words that are left, of which a call that took its words by value says nothing
 abbrev pub without_words : {A B C : Type 0} → A × B × C × List ℕ → A × B × C

@@ -1,4 +1,4 @@
-ghost use Rattle.std.specs.Prelude.{◌≡◌, ◌≤◌, length, replicate, OnSome};
+ghost use Rattle.std.specs.Prelude.{◌≡◌, ◌≤◌, Ok, length, replicate, take, OnOk, OnSome};
 ghost use Rattle.std.specs.Option.{option_map};
 ghost use Rattle.tree.specs.Sizes.{tree_size};
 ghost use Rattle.tree.specs.Tree.{zero_node};
@@ -50,8 +50,9 @@ pub fn shuffle_into<W: WordSource>(
     requires few { length weights.now ≤ 4096 }
     requires order { length weights.now ≤ length order.old }
     requires nodes { tree_size (length weights.now) ≤ length nodes.old }
-    ensures { (result, order.new, nodes.new, W.words words.new)
+    ensures answer { (result, order.new, nodes.new, W.words words.new)
         ≡ answered weights.now order.old nodes.old (W.words words.old) (whole_order weights.now (W.words words.old)) }
+    ensures front { OnOk result ((whole_order weights.now (W.words words.old)).0 ≡ Ok (take (length weights.now) order.new)) }
 {
     let n = weights.len();
     if n <= 64 {
@@ -64,7 +65,7 @@ pub fn shuffle_into<W: WordSource>(
 }
 
 // In scratch space for up to N weights and M nodes, since zeroing what is not needed costs time. That N and M are small is asked, as no
-// type says it.
+// type says it. The sizes are this function's own: those of `scratch` would clear 64 nodes, 8 KB, where a tree of 64 weights has 5.
 fn in_scratch<W: WordSource, const N: usize, const M: usize>(
     weights: &[u64],
     words: &mut W,
@@ -77,8 +78,9 @@ fn in_scratch<W: WordSource, const N: usize, const M: usize>(
     requires tree { tree_size (length weights.now) ≤ M }
     requires order { length weights.now ≤ length order.old }
     requires nodes { tree_size (length weights.now) ≤ length nodes.old }
-    ensures { (result, order.new, nodes.new, W.words words.new)
+    ensures answer { (result, order.new, nodes.new, W.words words.new)
         ≡ answered weights.now order.old nodes.old (W.words words.old) (whole_order weights.now (W.words words.old)) }
+    ensures front { OnOk result ((whole_order weights.now (W.words words.old)).0 ≡ Ok (take (length weights.now) order.new)) }
 {
     let n = weights.len();
     let size = get_num_nodes_and_tree_size(n).tree_size;

@@ -11,7 +11,7 @@ use tree::{Node, get_num_nodes_and_tree_size};
 use weighted_shuffle::{begin, shuffle};
 use words::ListWords;
 
-// A text of so many bytes is too long.
+// A text of so many bytes is too long. A test of the stored texts reads it in each program.
 const ROOM: usize = 524288;
 
 // The most weights and places, positions and sums of a case.
@@ -42,12 +42,16 @@ fn turned_down(weights: &[u64], order: &mut [u64], nodes: &mut [Node]) -> Option
 
 // Whether a tree's nodes hold these sums, one after the other.
 fn same_sums(nodes: &[Node], sums: &[u64]) -> bool {
-    sums.len() == 16 * nodes.len() && (0..sums.len()).all(|i| nodes[i / 16].sums[i % 16] == sums[i])
+    sums.len() == 16 * nodes.len()
+        && nodes
+            .iter()
+            .zip(sums.chunks_exact(16))
+            .all(|(node, part)| node.sums.as_slice() == part)
 }
 
 // Whether a list ends with another read backwards.
 fn ends_backwards(list: &[u64], end: &[u64]) -> bool {
-    end.len() <= list.len() && (0..end.len()).all(|i| list[list.len() - 1 - i] == end[i])
+    end.len() <= list.len() && list.iter().rev().zip(end).all(|(a, b)| a == b)
 }
 
 // Whether a shuffle begins with that weight, these sums and these zeros, of which the first stands last.
@@ -74,14 +78,14 @@ fn begins(
 fn begin_agrees(text: &mut Reader, alloc: Global) -> Option<bool>
     ensures { length text.new ≤ length text.old }
 {
-    let numbers = text.numbers::<2>()?;
+    let [places, nodes_lent] = text.numbers::<2>()?;
     let weights = text.list(WEIGHTS, alloc)?;
     let expected = text.expected::<1>()?;
     let sums = text.list_if(expected.is_ok(), SUMS, alloc)?;
     let zeros = text.list_if(expected.is_ok(), POSITIONS, alloc)?;
-    let mut order = cases::lent(numbers[0], WEIGHTS, alloc)?;
+    let mut order = cases::lent(places, WEIGHTS, alloc)?;
     let mut nodes = [nodes_cases::filled(HELD); 280];
-    let lent = numbers[1].min(280) as usize;
+    let lent = nodes_lent.min(280) as usize;
     let refusal = turned_down(&weights, &mut order, &mut nodes[..lent]);
     match expected {
         Ok(weight) => Some(refusal.is_none() && begins(&weights, weight[0], &sums, &zeros, alloc)?),
@@ -93,19 +97,20 @@ fn begin_agrees(text: &mut Reader, alloc: Global) -> Option<bool>
 fn shuffle_agrees(text: &mut Reader, alloc: Global) -> Option<bool>
     ensures { length text.new ≤ length text.old }
 {
-    let numbers = text.numbers::<2>()?;
+    let [cursor, places] = text.numbers::<2>()?;
     let weights = text.list(WEIGHTS, alloc)?;
     let list = text.list(WORDS, alloc)?;
     let expected = text.expected::<1>()?;
     let ordered = text.list_if(expected.is_ok(), WEIGHTS, alloc)?;
-    let mut order = cases::lent(numbers[1], WEIGHTS, alloc)?;
+    let before = cases::lent(places, WEIGHTS, alloc)?;
+    let mut order = before.clone().ok()?;
     let mut nodes = [nodes_cases::filled(HELD); 280];
-    let words = ListWords::new(&list, numbers[0] as usize);
+    let words = ListWords::new(&list, cursor as usize);
     let answer = shuffle(&weights, words, &mut order, &mut nodes);
     let same_nodes = nodes_cases::left_so(&nodes, answer.is_ok(), weights.len(), HELD);
     let told = answer.map(|order| [order.words_read as u64]);
     let same = told.map_err(|refusal| refusal.number()) == expected;
-    Some(same && same_nodes && cases::holds(&order, &ordered))
+    Some(same && same_nodes && cases::holds(&order, &before, &ordered))
 }
 
 struct ShuffleCases;

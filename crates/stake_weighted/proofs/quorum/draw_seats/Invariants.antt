@@ -1,6 +1,6 @@
 use Rattle.std.proofs.Common.{◌≡◌, ◌-◌, length, take}
 use Rattle.stake_weighted.specs.Seats.{iid_seats}
-use Rattle.stake_weighted.proofs.SeatLemmas.{with_front}
+use Rattle.words.proofs.FrontLemmas.{with_front}
 use Rattle.stake_weighted.proofs.quorum.draw_seats.Given as goal
 
 abbrev pub invariant-loop-seat : goal.invariant-loop-seat

@@ -1,0 +1,55 @@
+ghost use Rattle.std.specs.Prelude.{◌≡◌, ◌≤◌, ◌↔◌, length, IfSome, IsTrue};
+ghost use Rattle.bins_cases.specs.Bins.{four_if, AreHeld, AreLent};
+
+use cases::{Reader, SEATS, holds, lent};
+use std::alloc::Global;
+
+// The most pieces and seats that a case names.
+const PIECES: u64 = 5300;
+
+// What a call over bins is lent, or is to leave at the front of it: seats, and the bins, validators and stakes of the pieces.
+#[derive(Clone, Debug, Drop)]
+pub(crate) struct Lists {
+    pub(crate) seats: Vec<u64>,
+    pub(crate) bins: Vec<u64>,
+    pub(crate) validators: Vec<u64>,
+    pub(crate) stakes: Vec<u64>,
+}
+
+impl Lists {
+    // Buffers of so many places.
+    pub(crate) fn lent(places: [u64; 4], alloc: Global) -> Option<Self>
+        ensures { IfSome result (λ lists. AreLent lists places) }
+    {
+        Some(Lists {
+            seats: lent(places[0], SEATS, alloc)?,
+            bins: lent(places[1], PIECES, alloc)?,
+            validators: lent(places[2], PIECES, alloc)?,
+            stakes: lent(places[3], PIECES, alloc)?,
+        })
+    }
+
+    // The lists of a call that is to be accepted; of another, empty ones.
+    pub(crate) fn read_if(accepted: bool, text: &mut Reader, alloc: Global) -> Option<Self>
+        ensures value { IfSome result (λ lists.
+            (Some (lists.seats.items, lists.bins.items, lists.validators.items, lists.stakes.items), text.new) ≡ four_if accepted 5300 text.old) }
+        ensures rest { length text.new ≤ length text.old }
+    {
+        Some(Lists {
+            seats: text.list_if(accepted, PIECES, alloc)?,
+            bins: text.list_if(accepted, PIECES, alloc)?,
+            validators: text.list_if(accepted, PIECES, alloc)?,
+            stakes: text.list_if(accepted, PIECES, alloc)?,
+        })
+    }
+
+    // Whether the whole of each lent buffer is as it is to be.
+    pub(crate) fn hold(&self, before: &Lists, fronts: &Lists) -> bool
+        ensures { IsTrue result ↔ AreHeld self.now before.now fronts.now }
+    {
+        holds(&self.seats, &before.seats, &fronts.seats)
+            && holds(&self.bins, &before.bins, &fronts.bins)
+            && holds(&self.validators, &before.validators, &fronts.validators)
+            && holds(&self.stakes, &before.stakes, &fronts.stakes)
+    }
+}
