@@ -59,7 +59,7 @@ impl Fallback {
 /// A sampler that gives each validator the whole number of seats in its share, and draws the others.
 #[derive(Clone, Copy, Debug, PartialEq, Eq)]
 pub struct FaitAccompli1Sampler {
-    // An enum and no type parameter, so that one type serves both constructors of the original, and the C functions of both.
+    // An enum and no type parameter, which it is in the original: a sampler's record names its fallback, by a rule of the project.
     fallback: Fallback,
 }
 

@@ -43,7 +43,7 @@ impl IidQuorumSampler {
     pub fn sample_quorum<W: WordSource + Drop>(
         self,
         stakes: &[u64],
-        words: W,
+        mut words: W,
         seats: &mut [u64],
     ) -> Result<Quorum, Refusal>
         ensures { (result, seats.new) ≡ sample_quorum self.k stakes.now seats.old (W.words words) }
@@ -52,7 +52,6 @@ impl IidQuorumSampler {
         check_list_length(n)?;
         check_size(k)?;
         check_room(seats.len(), k)?;
-        let mut words = words;
         with_scratch(
             n + k,
             0,

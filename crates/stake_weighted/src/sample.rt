@@ -26,12 +26,11 @@ impl StakeWeightedSampler {
     }
 
     /// One validator, or the first reason to turn the call down.
-    pub fn sample<W: WordSource + Drop>(self, stakes: &[u64], words: W) -> Result<Sample, Refusal>
+    pub fn sample<W: WordSource + Drop>(self, stakes: &[u64], mut words: W) -> Result<Sample, Refusal>
         ensures { result ≡ sample stakes.now (W.words words) }
     {
         check_list_length(stakes.len())?;
         let sum = check_sum(stakes)?;
-        let mut words = words;
         let before = words.words_left();
         let v = draw_below(&mut words, sum).ok_or(Refusal::NoWordLeft)?;
         let place = walked_place(stakes, v);

@@ -67,7 +67,8 @@ impl Tree<'_> {
         }
     }
 
-    // On the way from a position up to the root, by index from node to node, one weight takes the place of another in each sum.
+    // On the way from a position up to the root, one weight takes the place of another in each sum. The way goes by index from node to
+    // node, so there is no list to iterate.
     fn change(&mut self, position: usize, from: u64, to: u64)
         requires holds { Holds self.old (weights_of self.old) }
         requires place { position < self.old.count }

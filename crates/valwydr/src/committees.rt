@@ -70,7 +70,8 @@ fn committee_values(committee: Committee) -> [u64; 4]
 
 /// A committee of `k`: the fixed seats, then those from bins, with the pieces in their columns. The answer: how many seats are not fixed,
 /// the number of pieces, the words read of each list.
-// Over seven parameters: C passes each slice and each cursor by itself.
+// Over seven parameters: C passes each slice and each cursor by itself. The body is that of the partition but for the sampler: a function
+// for both would be lent each slice again, with a closure and a contract over all of them, and be longer.
 #[unsafe(no_mangle)]
 pub extern "C" fn valwydr_fait_accompli1_with_partition_fallback(
     k: usize,

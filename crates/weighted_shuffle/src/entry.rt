@@ -25,13 +25,12 @@ pub struct Order {
 /// In this order: `ListLength` for more than 4,096 weights, `ShortBuffer` and `NoWordLeft`. What is lent then holds what it held.
 pub fn shuffle<W: WordSource + Drop>(
     weights: &[u64],
-    words: W,
+    mut words: W,
     order: &mut [u64],
     nodes: &mut [Node],
 ) -> Result<Order, Refusal>
     ensures { (result, order.new, nodes.new) ≡ shuffle weights.now order.old nodes.old (W.words words) }
 {
-    let mut words = words;
     let n = weights.len();
     check_long_list(n)?;
     check_room(order.len(), n)?;
@@ -39,7 +38,8 @@ pub fn shuffle<W: WordSource + Drop>(
     shuffle_into(weights, &mut words, order, nodes)
 }
 
-/// The same for buffers that are known to be long enough, by lent words.
+/// The same for buffers that are known to be long enough, by lent words. That the weights are at most 4,096 is asked, here and below, as
+/// no type of a slice says it.
 #[tactic(auto, using(tree::proofs::SizeLemmas::size_64, tree::proofs::SizeLemmas::size_1024, tree::proofs::SizeLemmas::shape))]
 pub fn shuffle_into<W: WordSource>(
     weights: &[u64],

@@ -13,7 +13,7 @@ fn counts(sum: u64, weight: u64) -> u64
 }
 
 /// A shuffle begins: the tree of the weights, as far as they count, in the lent nodes. The positions of the zeros are listed at the end
-/// of `drawn`, the first of them last.
+/// of `drawn`, the first of them last. That the weights are at most 4,096 is asked, as no type of a slice says it.
 pub fn begin<'a>(weights: &[u64], nodes: &'a mut [Node], drawn: &mut [u64]) -> Tree<'a>
     requires few { length weights.now ≤ 4096 }
     requires size { length nodes.old ≡ tree_size (length weights.now) }
