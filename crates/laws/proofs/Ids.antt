@@ -15,11 +15,6 @@ pub ids_long : (i n : ℕ) → length (ids_from i n) ≡ n
 ids_long i zero = refl
 ids_long i (suc n) = ap suc (ids_long (suc i) n)
 
-pub ids_at : (i n p : ℕ) → p < n → get_or (ids_from i n) p 0 ≡ i + p
-ids_at i zero p h = absurd (omega arith)
-ids_at i (suc n) zero h = omega arith
-ids_at i (suc n) (suc p) h = omega (arith, ids_at (suc i) n p (omega arith))
-
 -- what is counted at one id alone
 module _ (h : ℕ → ℕ) (v : ℕ) where
   abbrev pub only : ℕ → ℕ

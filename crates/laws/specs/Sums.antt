@@ -1,12 +1,13 @@
 -- Sums over a list.
 use Rattle.std.specs.Prelude.{ℕ, ◌+◌, List, [], ◌∷◌, map}
 
--- the sum of all numbers
+-- the sum of all numbers; the statements keep the words in which they stood, and `total_is_sum` of laws/proofs/Std.antt joins it to
+-- std's `sum`
 abbrev pub total : List ℕ → ℕ
 total [] = 0
 total (x ∷ xs) = x + total xs
 
--- the sum of f over a list of any elements
+-- the sum of f over a list of any elements; `sum_of_is_sum_by` joins it to std's `sum_by`
 abbrev pub sum_of : {A : Type 0} → (A → ℕ) → List A → ℕ
 sum_of f xs = total (map f xs)
 

@@ -1,11 +1,11 @@
-//! Scratch space, lent for one call.
+//! Scratch space, lent for one call. On the stack: the library takes nothing from a heap, by a rule of the project.
 #![tactic(auto)]
 
 ghost use Rattle.std.specs.Prelude.{◌≡◌, ◌*◌, ◌^◌, ◌<◌, ◌≤◌, replicate};
 ghost use Rattle.std.specs.Mem.{type_size};
 
 /// What `run` gives when it is lent a slice of `n` places that hold `fill`. The array they lie in is the smallest of a few sizes, since to
-/// fill what is not needed costs time; it stands on the stack.
+/// fill what is not needed costs time.
 // `run` is lent, since of a closure by value a caller does not know what it wrote to what it captures.
 pub fn with_scratch<T: Copy, R, F: FnMut(&mut [T]) -> R>(n: usize, fill: T, run: &mut F) -> R
     requires few { n ≤ 9216 }

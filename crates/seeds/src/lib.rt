@@ -1,4 +1,5 @@
-//! Seeds: the 32 bytes that the words of a Turbine tree or of a Rotor committee are made from.
+//! Seeds: the 32 bytes that the words of a Turbine tree or of a Rotor committee are made from. The buffer is a slice whose length is
+//! checked, and no array, since C lends it.
 #![tactic(auto)]
 
 mod theorems;

@@ -84,7 +84,7 @@ impl Stake {
         }
     }
 
-    /// The lesser of two stakes, under the original's name.
+    /// The lesser of two stakes. The derived `Ord` has `min` too; here it stands under the original's name, with its contract.
     pub fn min(self, other: Self) -> Self
         ensures { result ≡ min self other }
     {
@@ -92,6 +92,7 @@ impl Stake {
     }
 }
 
+// By hand, as there is no derive of `Display`; `output` states what is printed.
 impl fmt::Display for Stake {
     ghost use Rattle.std.specs.Prelude.{Some};
     ghost use Rattle.std.specs.Fmt.{decimal};
