@@ -77,11 +77,7 @@ impl Stake {
             total = next;
             carries += u64::from(carry);
         }
-        if carries == 0 {
-            Some(Self(total))
-        } else {
-            None
-        }
+        (carries == 0).then_some(Self(total))
     }
 
     /// The lesser of two stakes. The derived `Ord` has `min` too; here it stands under the original's name, with its contract.
