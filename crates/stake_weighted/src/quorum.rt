@@ -79,7 +79,7 @@ impl IidQuorumSampler {
         draw_seats(words, weights, drawn).ok_or(Refusal::NoWordLeft)?;
         seats[..self.k].copy_from_slice(drawn);
         Ok(Quorum {
-            words_read: before.saturating_sub(words.words_left()),
+            words_read: words.read_since(before),
         })
     }
 }

@@ -36,7 +36,7 @@ impl StakeWeightedSampler {
         let place = walked_place(stakes, v);
         Ok(Sample {
             id: ValidatorIndex::new(place.at as u64),
-            words_read: before.saturating_sub(words.words_left()),
+            words_read: words.read_since(before),
         })
     }
 }

@@ -97,7 +97,7 @@ fn in_scratch<W: WordSource, const N: usize, const M: usize>(
     }
     order[..n].copy_from_slice(drawn);
     Ok(Order {
-        words_read: before.saturating_sub(words.words_left()),
+        words_read: words.read_since(before),
     })
 }
 
