@@ -24,7 +24,8 @@ total-take-le xs zero = omega arith
 total-take-le [] (suc i) = omega arith
 total-take-le (x ∷ xs) (suc i) = omega (arith, total-take-le xs i)
 
--- where all numbers sum below 2 ^ w, so does every front part with the next number added; no proof cites it; docs/TRACE.md names it as a promise
+-- where all numbers sum below 2 ^ w, so does every front part with the next number added
+-- no proof cites it; docs/TRACE.md names it as a promise
 pub sum_fits : (w : ℕ) (xs : List ℕ) (i : ℕ) → i < length xs → total xs < 2 ^ w → total (take i xs) + get_or xs i 0 < 2 ^ w
 sum_fits w xs i l h = omega (arith, total-take-suc xs i l, total-take-le xs (suc i))
 
