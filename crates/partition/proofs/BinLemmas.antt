@@ -17,7 +17,7 @@ use Rattle.fill.specs.Values.{bin_sums, values_below, Low, choices}
 use Rattle.fill.proofs.FillLemmas.{bin_total-cons}
 use Rattle.fill.proofs.SeatLemmas.{seats_by_values, fill_totals}
 use Rattle.partition.specs.declared.checks.Bins.{Bins}
-use Rattle.partition.specs.Partition.{Parted, over_bins, Held, placed, Fillable}
+use Rattle.partition.specs.Partition.{Parted, over_bins, Held, placed}
 
 ids-more : (i n : ℕ) → ids_from i (suc n) ≡ ids_from i n ++ (i + n) ∷ []
 ids-more i zero = let same : i ≡ i + 0 = omega arith in ap (λ (k : ℕ). k ∷ []) same
@@ -53,19 +53,19 @@ placed_pieces : (old new : Columns) (places : List Place) (ps : List Piece) (lef
     (placed (old.bins.now, old.validators.now, old.stakes.now) (Some (record { drawn = places; pieces = ps }), left, rest))
 placed_pieces old new places ps left rest begin = rw (begin.bins, begin.validators, begin.stakes) refl
 
-module _ (weights : List ℕ) (bins : Bins) (order : List ℕ) (fill_able : Fillable (sum weights) bins) (permuted : IsPermutation (ids_from 0 (length weights)) order) where
-  pub ids_low : All (λ i. i < length weights) order
-  ids_low = All-permutation (λ i. i < length weights) (ids_from 0 (length weights)) order permuted (ids-low 0 (length weights) (length weights) (omega arith))
+pub ids_low : (weights order : List ℕ) → IsPermutation (ids_from 0 (length weights)) order → All (λ i. i < length weights) order
+ids_low weights order permuted = All-permutation (λ i. i < length weights) (ids_from 0 (length weights)) order permuted (ids-low 0 (length weights) (length weights) (omega arith))
 
+module _ (weights : List ℕ) (bins : Bins) (order : List ℕ) (summed : bins.sum ≡ sum weights) (permuted : IsPermutation (ids_from 0 (length weights)) order) where
   pub same_total : bin_total (in_order weights order) ≡ bins.sum
   same_total =
       sum_by-IsPermutation (λ x. x) (share_stakes (in_order weights (ids_from 0 (length weights)))) (share_stakes (in_order weights order))
       (IsPermutation-map (λ (x : Share). x.stake) (in_order weights (ids_from 0 (length weights))) (in_order weights order) (IsPermutation-map (share_of weights) (ids_from 0 (length weights)) order permuted))
       ∙ total-ids 0 [] weights refl
-      ∙ sym fill_able.is
+      ∙ sym summed
 
   pub enough_room : bin_total (in_order weights order) ≤ bins.number * bins.capacity
-  enough_room = omega (arith, same_total, fill_able.room)
+  enough_room = omega (arith, same_total, bins.room)
 
   pub values_fit : (vs : List ℕ) → Low (bin_sums bins.capacity bins.number bins.sum) vs → Low (bin_sums bins.capacity bins.number (bin_total (in_order weights order))) vs
   values_fit vs low = rw same_total low

@@ -1,5 +1,5 @@
 -- "Partition of total S into b bins", and one seat from each.
-use Rattle.std.specs.Prelude.{◌≡◌, ℕ, ◌+◌, ◌-◌, ◌*◌, ◌≤◌, ◌<◌, if◌then◌else◌, Option, Some, None, Result, Ok, Err, List, [], ◌∷◌, length, sum, ◌==◌}
+use Rattle.std.specs.Prelude.{ℕ, ◌+◌, if◌then◌else◌, Option, Some, None, Result, Ok, Err, List, [], ◌∷◌, length, sum, ◌==◌}
 use Rattle.std.specs.Int.{div_ceil}
 use Rattle.laws.specs.Orders.{ids_from}
 use Rattle.refusals.specs.declared.refusal.Refusal.{Refusal}
@@ -14,7 +14,6 @@ use Rattle.fill.specs.declared.columns.Columns.{Columns}
 use Rattle.fill.specs.Columns.{column_after}
 use Rattle.fill.specs.Fill.{in_order, fill, pieces}
 use Rattle.fill.specs.Values.{seats}
-use Rattle.partition.specs.declared.checks.Bins.{Bins}
 
 -- "capacity ceil(S / b)"
 abbrev pub capacity : ℕ → ℕ → ℕ
@@ -81,11 +80,3 @@ short_pieces (bins, validators, stakes) needed =
 abbrev pub placed : Held → Option Parted × List ℕ × List ℕ → Option (ℕ × List ℕ) × Held × List ℕ × List ℕ
 placed held (None, first, second) = (None, held, first, second)
 placed held (Some p, first, second) = (Some (length p.pieces, seat_ids p), columns_of p.pieces held, first, second)
-
--- bins that have room for weights of the sum S, and of which none would be empty
-pub record Fillable (S : ℕ) (bins : Bins) : Type 0 where
-  pub is : bins.sum ≡ S
-  pub some : 0 < bins.number
-  pub capacity : 0 < bins.capacity
-  pub room : bins.sum ≤ bins.number * bins.capacity
-  pub full : (bins.number - 1) * bins.capacity < bins.sum

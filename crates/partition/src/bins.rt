@@ -2,7 +2,7 @@ ghost use Rattle.std.specs.Prelude.{◌≡◌, ◌+◌, IsPermutation, length, s
 ghost use Rattle.std.specs.Option.{option_map};
 ghost use Rattle.laws.specs.Orders.{ids_from};
 ghost use Rattle.draws.specs.Shuffle.{shuffle};
-ghost use Rattle.partition.specs.Partition.{held_of, over_bins, placed, Fillable};
+ghost use Rattle.partition.specs.Partition.{held_of, over_bins, placed};
 ghost use Rattle.fill.specs.Columns.{HaveRoom, SameLoans};
 
 use crate::checks::Bins;
@@ -44,7 +44,7 @@ pub fn draw_bins<A: WordSource, B: WordSource>(
     seats: &mut [u64],
     columns: &mut Columns,
 ) -> Option<usize>
-    requires fillable { Fillable (sum weights.now) bins }
+    requires sum { bins.sum ≡ sum weights.now }
     requires order { length order.old ≡ length weights.now }
     requires seats { length seats.old ≡ bins.number }
     requires room { HaveRoom columns.old (length weights.now + bins.number) }

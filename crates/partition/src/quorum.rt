@@ -1,5 +1,5 @@
 ghost use Rattle.std.specs.Prelude.{◌≡◌, ◌+◌, ◌≤◌, length, sum};
-ghost use Rattle.partition.specs.Partition.{held_of, over_bins, or_no_word, Fillable};
+ghost use Rattle.partition.specs.Partition.{held_of, over_bins, or_no_word};
 ghost use Rattle.partition.specs.Calls.{told, sample_quorum};
 ghost use Rattle.fill.specs.Columns.{HaveRoom, SameLoans};
 
@@ -92,7 +92,7 @@ fn draw_in<A: WordSource, B: WordSource>(
     columns: &mut Columns,
 ) -> Result<Partition, Refusal>
     requires space { length space.old ≡ length stakes.now + bins.number }
-    requires fillable { Fillable (sum stakes.now) bins }
+    requires sum { bins.sum ≡ sum stakes.now }
     requires seats { bins.number ≤ length seats.old }
     requires room { HaveRoom columns.old (length stakes.now + bins.number) }
     ensures told { (result, (seats.new, held_of columns.new))
