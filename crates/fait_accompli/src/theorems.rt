@@ -1,6 +1,7 @@
 ghost use Rattle.fait_accompli.specs.Laws.{FallbackReadsOnly, CommitteeReadsOnly, CommitteeAdmitted};
 
 /// A committee leaves no more words of either source than there were.
+#[tactic(auto, using(crate::proofs::AdmittedLemmas::fallback_reads_only, crate::proofs::AdmittedLemmas::committee_reads_only))]
 pub fn committees_read_only()
     ensures further { FallbackReadsOnly }
     ensures calls { CommitteeReadsOnly }

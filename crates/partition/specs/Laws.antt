@@ -1,4 +1,5 @@
 -- What is promised of the capacity, of every partition and of every accepted call.
+-- An `unfoldable` law stays shut where its theorem is proved: open, the search gives up on `using` of its lemma.
 use Rattle.std.specs.Prelude.{ℕ, ◌+◌, ◌*◌, ◌≤◌, ◌<◌, ◌≡◌, Option, Ok, List, length, sum}
 use Rattle.refusals.specs.Refusal.{first_of}
 use Rattle.partition.specs.Partition.{capacity, most_pieces, Parted, over_bins, parted, Held}
@@ -18,11 +19,11 @@ pub record ReadsOnly (first second : List ℕ) (call : Option Parted × List ℕ
   pub of_second : length call.2 ≤ length second
 
 -- bins of any capacity
-abbrev pub BinsReadOnly : Type 0
+unfoldable pub BinsReadOnly : Type 0
 BinsReadOnly = (weights : List ℕ) (capacity b : ℕ) (first second : List ℕ) → ReadsOnly first second (over_bins weights capacity b first second)
 
 -- and those of a call
-abbrev pub PartitionReadsOnly : Type 0
+unfoldable pub PartitionReadsOnly : Type 0
 PartitionReadsOnly = (weights : List ℕ) (b : ℕ) (first second : List ℕ) → ReadsOnly first second (parted weights b first second)
 
 -- each column has so many places

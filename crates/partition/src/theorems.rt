@@ -4,6 +4,7 @@ ghost use Rattle.partition.specs.Laws.{CapacityLeast, BinsReadOnly, PartitionRea
 /// Every accepted partition has as many seats as bins, and its bins are filled: none is empty, each holds its capacity or what is left for
 /// it, the pieces of a validator add up to its stake, a bin has one piece of a validator at most and chooses it for as many values as the
 /// piece counts.
+#[tactic(auto, using(crate::proofs::PieceLaws::partitions_filled))]
 pub fn partitions_are_filled()
     ensures { PartitionsFilled }
 {}
@@ -15,6 +16,7 @@ pub fn capacity_is_least()
 {}
 
 /// A partition leaves no more words of either source than there were.
+#[tactic(auto, using(crate::proofs::AdmittedLemmas::bins_read_only, crate::proofs::AdmittedLemmas::partition_reads_only))]
 pub fn partitions_read_only()
     ensures bins { BinsReadOnly }
     ensures calls { PartitionReadsOnly }
