@@ -22,7 +22,7 @@ fallback_reads_only (Bins k) weights b first second = partition_reads_only weigh
 fallback_reads_only (Draws k) weights b first second = plain (iid b weights first) (quorum_reads_only b weights first)
   where
     plain : (drawn : Option (List Place) × List ℕ) → length drawn.1 ≤ length first →
-        ReadsOnly first second (after {R = Option Parted × List ℕ × List ℕ} drawn (λ left. (None, left, second)) (λ places left. (Some (record { drawn = places; pieces = [] }), left, second)))
+        ReadsOnly first second (after {R = Option Parted × (List ℕ × List ℕ)} drawn (λ left. (None, (left, second))) (λ places left. (Some (record { drawn = places; pieces = [] }), (left, second))))
     plain (None, left) few = record { of_first = few; of_second = omega arith }
     plain (Some places, left) few = record { of_first = few; of_second = omega arith }
 

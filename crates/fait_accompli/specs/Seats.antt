@@ -15,17 +15,17 @@ size_of (Bins k) = k
 size_of (Draws k) = k
 
 -- b seats by plain draws: they make no piece, and leave the second words as they are
-abbrev pub plain : List ℕ → ℕ → List ℕ → List ℕ → Option Parted × List ℕ × List ℕ
+abbrev pub plain : List ℕ → ℕ → List ℕ → List ℕ → Option Parted × (List ℕ × List ℕ)
 plain weights b first second =
-    after (iid b weights first) (λ left. (None, left, second)) (λ places left. (Some (record { drawn = places; pieces = [] }), left, second))
+    after (iid b weights first) (λ left. (None, (left, second))) (λ places left. (Some (record { drawn = places; pieces = [] }), (left, second)))
 
 -- b seats over any weights: over bins they read both words, plain draws read the first
-abbrev pub fallback : Fallback → List ℕ → ℕ → List ℕ → List ℕ → Option Parted × List ℕ × List ℕ
+abbrev pub fallback : Fallback → List ℕ → ℕ → List ℕ → List ℕ → Option Parted × (List ℕ × List ℕ)
 fallback (Bins k) weights b first second = parted weights b first second
 fallback (Draws k) weights b first second = plain weights b first second
 
 -- "The k' = k − (all fixed) further seats come from the fallback over what is kept"
-abbrev pub committee : Fallback → List ℕ → List ℕ → List ℕ → Option Parted × List ℕ × List ℕ
+abbrev pub committee : Fallback → List ℕ → List ℕ → List ℕ → Option Parted × (List ℕ × List ℕ)
 committee f list first second = fallback f (kept_of (size_of f) list) (further (size_of f) list) first second
 
 -- what stands in the lent seats: the fixed seats, "in list order, repeated", and then those drawn

@@ -42,7 +42,7 @@ bins_read_only weights cap b first second =
     both order.0 order.2 (seats bins second) (pieces 0 bins) ((draws_read_only first).of_shuffle ids) (seats_leave bins second)
   where
     both : (done : Option (Unit {0})) (left : List ℕ) (drawn : Option (List Place) × List ℕ) (ps : List Piece) → length left ≤ length first → length drawn.1 ≤ length second →
-        ReadsOnly first second (after {R = Option Parted × List ℕ × List ℕ} (done, left) (λ left. (None, left, second)) (λ done left. after drawn (λ rest. (None, left, rest)) (λ places rest. (Some (record { drawn = places; pieces = ps }), left, rest))))
+        ReadsOnly first second (after {R = Option Parted × (List ℕ × List ℕ)} (done, left) (λ left. (None, (left, second))) (λ done left. after drawn (λ rest. (None, (left, rest))) (λ places rest. (Some (record { drawn = places; pieces = ps }), (left, rest)))))
     both None left drawn ps few less = record { of_first = few; of_second = omega arith }
     both (Some done) left (None, rest) ps few less = record { of_first = few; of_second = less }
     both (Some done) left (Some places, rest) ps few less = record { of_first = few; of_second = less }
@@ -51,7 +51,7 @@ pub partition_reads_only : PartitionReadsOnly
 unfolding PartitionReadsOnly BinsReadOnly
 partition_reads_only weights b first second = go (b == 0)
   where
-    go : (none : Bool) → ReadsOnly first second (if none then (Some (record { drawn = []; pieces = [] }), first, second) else over_bins weights (capacity (sum weights) b) b first second)
+    go : (none : Bool) → ReadsOnly first second (if none then (Some (record { drawn = []; pieces = [] }), (first, second)) else over_bins weights (capacity (sum weights) b) b first second)
     go true = record { of_first = omega arith; of_second = omega arith }
     go false = bins_read_only weights (capacity (sum weights) b) b first second
 

@@ -50,7 +50,7 @@ total-ids n front (w ∷ weights) at =
 placed_pieces : (old new : Columns) (places : List Place) (ps : List Piece) (left rest : List ℕ) → Begin old new ps →
     ◌≡◌ {A = Option (ℕ × List ℕ) × Held × List ℕ × List ℕ}
     (Some (length ps, ids places), (new.bins.now, new.validators.now, new.stakes.now), left, rest)
-    (placed (old.bins.now, old.validators.now, old.stakes.now) (Some (record { drawn = places; pieces = ps }), left, rest))
+    (placed (old.bins.now, old.validators.now, old.stakes.now) (Some (record { drawn = places; pieces = ps }), (left, rest)))
 placed_pieces old new places ps left rest begin = rw (begin.bins, begin.validators, begin.stakes) refl
 
 pub ids_low : (weights order : List ℕ) → IsPermutation (ids_from 0 (length weights)) order → All (λ i. i < length weights) order
@@ -76,12 +76,12 @@ module _ (weights : List ℕ) (bins : Bins) (order : List ℕ) (summed : bins.su
 
     -- the seats of the bins, by the values
     all_drawn : (vs rest : List ℕ) → ◌≡◌ {A = Option (List ℕ) × List ℕ} (Some vs, rest) (values_below (bin_sums bins.capacity bins.number bins.sum) second) →
-        ◌≡◌ {A = Option Parted × List ℕ × List ℕ} (Some (record { drawn = choices filled vs; pieces = pieces 0 filled }), left, rest) (over_bins weights bins.capacity bins.number first second)
+        ◌≡◌ {A = Option Parted × (List ℕ × List ℕ)} (Some (record { drawn = choices filled vs; pieces = pieces 0 filled }), (left, rest)) (over_bins weights bins.capacity bins.number first second)
     all_drawn vs rest drawn = rw (← shuffled, seats_by_values filled second, fill_totals bins.capacity bins.number (in_order weights order), same_total, ← drawn) refl
 
     -- the second words run out
     pub none_drawn : (rest : List ℕ) → ◌≡◌ {A = Option (List ℕ) × List ℕ} (None, rest) (values_below (bin_sums bins.capacity bins.number bins.sum) second) →
-        ◌≡◌ {A = Option Parted × List ℕ × List ℕ} (None, left, rest) (over_bins weights bins.capacity bins.number first second)
+        ◌≡◌ {A = Option Parted × (List ℕ × List ℕ)} (None, (left, rest)) (over_bins weights bins.capacity bins.number first second)
     none_drawn rest drawn = rw (← shuffled, seats_by_values filled second, fill_totals bins.capacity bins.number (in_order weights order), same_total, ← drawn) refl
 
     -- all that a call gives

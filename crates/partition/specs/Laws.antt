@@ -14,9 +14,9 @@ abbrev pub CapacityLeast : Type 0
 CapacityLeast = (S b : ℕ) → 0 < b → Least S b
 
 -- of neither source are more words left than there were, so the words read are the differences
-pub record ReadsOnly (first second : List ℕ) (call : Option Parted × List ℕ × List ℕ) : Type 0 where
-  pub of_first : length call.1 ≤ length first
-  pub of_second : length call.2 ≤ length second
+pub record ReadsOnly (first second : List ℕ) (call : Option Parted × (List ℕ × List ℕ)) : Type 0 where
+  pub of_first : length call.1.0 ≤ length first
+  pub of_second : length call.1.1 ≤ length second
 
 -- bins of any capacity
 unfoldable pub BinsReadOnly : Type 0

@@ -1,5 +1,6 @@
 ghost use Rattle.std.specs.Prelude.{◌≡◌, ◌+◌, ◌≤◌, length, sum};
-ghost use Rattle.partition.specs.Partition.{held_of, over_bins, or_no_word};
+ghost use Rattle.draws.specs.Call.{or_no_word};
+ghost use Rattle.partition.specs.Partition.{held_of, over_bins};
 ghost use Rattle.partition.specs.Calls.{told, sample_quorum};
 ghost use Rattle.fill.specs.Columns.{HaveRoom, SameLoans};
 

@@ -182,8 +182,8 @@ committees_fair k list first second seats bins validators stakes r e =
     go : (o : Given) → ((p : Parted) → o.0 ≡ Ok p → Fair k list (seats_of (Bins k) list p) (further k list) p.pieces) →
         let call = told (Bins k) list (seats, (bins, validators, stakes)) first second o in
         call.0 ≡ Ok r → Fair k list (take k call.1.0) r.further (pieces_in r.pieces call.1.1.0 call.1.1.1 call.1.1.2)
-    go (Err refusal, left, rest) fair t = cc
-    go (Ok p, left, rest) fair t =
+    go (Err refusal, (left, rest)) fair t = cc
+    go (Ok p, (left, rest)) fair t =
         let f = fair p refl in
         let same : record { further = further k list; pieces = length p.pieces; first_words_read = length first - length left; second_words_read = length second - length rest } ≡ r = cc in
         let front : take k (seats_of (Bins k) list p ++ drop (length (seats_of (Bins k) list p)) seats) ≡ seats_of (Bins k) list p = take_at (seats_of (Bins k) list p) _ k f.size in
