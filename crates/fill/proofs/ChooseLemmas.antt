@@ -63,5 +63,5 @@ rows-pieces (p ∷ ps) = ap (λ (rest : List Piece). p ∷ rest) (rows-pieces ps
 -- the pieces that were written to the front are read
 pub rows_begin : (old new : Columns) (ps : List Piece) → Begin old new ps → rows_of (length ps) new ≡ ps
 rows_begin old new ps begin =
-    rw (begin.bins, begin.validators, begin.stakes, take_at (bins_of ps) (drop (length ps) old.bins.now) (length ps) (length-map ps (λ p. p.bin)), take_at (validators_of ps) (drop (length ps) old.validators.now) (length ps) (length-map ps (λ p. p.validator)), take_at (stakes_of ps) (drop (length ps) old.stakes.now) (length ps) (length-map ps (λ p. p.stake)))
+    rw (begin.bins, begin.validators, begin.stakes, take_at (bins_of ps) _ (length ps) (length-map ps (λ p. p.bin)), take_at (validators_of ps) _ (length ps) (length-map ps (λ p. p.validator)), take_at (stakes_of ps) _ (length ps) (length-map ps (λ p. p.stake)))
     (rows-pieces ps)

@@ -1,7 +1,9 @@
 -- Three lent columns of pieces.
-use Rattle.std.specs.Prelude.{ℕ, ◌+◌, ◌≡◌, ◌≤◌, ◌<◌, ◌++◌, if◌then◌else◌, ◌==◌, List, map, length, drop, set}
+use Rattle.std.specs.Prelude.{ℕ, ◌+◌, ◌≡◌, ◌≤◌, ◌<◌, if◌then◌else◌, ◌==◌, List, length, set}
+use Rattle.laws.specs.Buffers.{written}
 use Rattle.fill.specs.declared.columns.Columns.{Columns}
 use Rattle.fill.specs.declared.piece.Piece.{Piece}
+use Rattle.fill.specs.Piece.{bins_of, validators_of, stakes_of}
 
 -- each column has so many places
 pub record HaveRoom (columns : Columns) (places : ℕ) : Type 0 where
@@ -27,12 +29,8 @@ pub record Stored (old new : Columns) (at place : ℕ) (piece : Piece) : Type 0 
   pub none : piece.stake ≡ 0 → new ≡ old
   pub put : 0 < piece.stake → PutAt old new at piece
 
--- what a lent column holds after the pieces are written to its front: past them is what was there
-abbrev pub column_after : (Piece → ℕ) → List Piece → List ℕ → List ℕ
-column_after part pieces held = map part pieces ++ drop (length pieces) held
-
 -- the pieces stand at the front of the columns
 pub record Begin (old new : Columns) (pieces : List Piece) : Type 0 where
-  pub bins : new.bins.now ≡ column_after (λ p. p.bin) pieces old.bins.now
-  pub validators : new.validators.now ≡ column_after (λ p. p.validator) pieces old.validators.now
-  pub stakes : new.stakes.now ≡ column_after (λ p. p.stake) pieces old.stakes.now
+  pub bins : new.bins.now ≡ written (bins_of pieces) old.bins.now
+  pub validators : new.validators.now ≡ written (validators_of pieces) old.validators.now
+  pub stakes : new.stakes.now ≡ written (stakes_of pieces) old.stakes.now

@@ -1,6 +1,7 @@
 -- "Partition of total S into b bins", and one seat from each.
 use Rattle.std.specs.Prelude.{ℕ, ◌+◌, if◌then◌else◌, Option, Some, None, Result, List, [], ◌∷◌, length, sum, ◌==◌}
 use Rattle.std.specs.Int.{div_ceil}
+use Rattle.laws.specs.Buffers.{written}
 use Rattle.laws.specs.Orders.{ids_from}
 use Rattle.refusals.specs.declared.refusal.Refusal.{Refusal}
 use Rattle.refusals.specs.Refusal.{Check, short_buffer}
@@ -10,7 +11,7 @@ use Rattle.draws.specs.Weighted.{ids}
 use Rattle.draws.specs.Shuffle.{shuffle}
 use Rattle.fill.specs.declared.piece.Piece.{Piece}
 use Rattle.fill.specs.declared.columns.Columns.{Columns}
-use Rattle.fill.specs.Columns.{column_after}
+use Rattle.fill.specs.Piece.{bins_of, validators_of, stakes_of}
 use Rattle.fill.specs.Fill.{in_order, fill, pieces}
 use Rattle.fill.specs.Values.{seats}
 
@@ -56,9 +57,9 @@ Held = List ℕ × List ℕ × List ℕ
 abbrev pub held_of : Columns → Held
 held_of columns = (columns.bins.now, columns.validators.now, columns.stakes.now)
 
+-- and what they hold after pieces are written to their front
 abbrev pub columns_of : List Piece → Held → Held
-columns_of ps (bins, validators, stakes) =
-    (column_after (λ p. p.bin) ps bins, column_after (λ p. p.validator) ps validators, column_after (λ p. p.stake) ps stakes)
+columns_of ps (bins, validators, stakes) = (written (bins_of ps) bins, written (validators_of ps) validators, written (stakes_of ps) stakes)
 
 -- each column needs a place for each piece
 abbrev pub short_pieces : Held → ℕ → List Check

@@ -2,7 +2,7 @@
 use Prim.Native.Nat.{ℕ, zero, suc, ◌+◌, ◌-◌, ◌*◌, ◌≤◌, ◌<◌}
 use mathlib.Core.Path.{◌≡◌, refl, sym, ap, ◌∙◌}
 use mathlib.Core.Bool.{true, false, cond}
-use mathlib.Core.List.{List, [], ◌∷◌, ◌++◌, map}
+use mathlib.Core.List.{List, [], ◌∷◌, ◌++◌}
 use native.Mathlib.Omega.{arith}
 use lib.Dec.{eqb}
 use lib.ListN.{length, get_or, take, drop, replicate, length-append, length-replicate}
@@ -10,6 +10,7 @@ use lib.Seq.{take_at}
 use borrow.Author.Tests.{eq-eqb, ne_eqb}
 use Rattle.std.proofs.lemmas.List.Folds.{sum_by-replicate}
 use Rattle.std.specs.Prelude.{sum, Some, Ok, Err}
+use Rattle.laws.specs.Buffers.{written}
 use Rattle.laws.specs.Sums.{total}
 use Rattle.laws.specs.Counts.{count}
 use Rattle.laws.proofs.Counts.{count_none}
@@ -17,7 +18,7 @@ use Rattle.laws.proofs.Lists.{sum_append}
 use Rattle.laws.proofs.Std.{total_is_sum, sum_of_is_sum_by}
 use Rattle.refusals.specs.Refusal.{Check, first_of, list_length, size_of_some, is_over_or_zero, short_buffer, sum_past, total_zero, empty_bin}
 use Rattle.fill.specs.declared.piece.Piece.{Piece}
-use Rattle.fill.specs.Columns.{column_after}
+use Rattle.fill.specs.Piece.{bins_of, validators_of, stakes_of}
 use Rattle.fixed_seats.specs.Fixed.{fixed, fixed_of, kept_of, further, repeated}
 use Rattle.fixed_seats.proofs.SeatLemmas.{sum-cons}
 use Rattle.partition.specs.Partition.{capacity, Parted, parted, seat_ids, Given, short_pieces}
@@ -58,10 +59,10 @@ length-repeated j (c ∷ cs) =
 
 -- the columns whose front holds the pieces
 columns_hold : (ps : List Piece) (bs vs ss : List ℕ) →
-    pieces_in (length ps) (column_after (λ p. p.bin) ps bs) (column_after (λ p. p.validator) ps vs) (column_after (λ p. p.stake) ps ss) ≡ ps
-columns_hold ps bs vs ss = front ps (drop (length ps) bs) (drop (length ps) vs) (drop (length ps) ss)
+    pieces_in (length ps) (written (bins_of ps) bs) (written (validators_of ps) vs) (written (stakes_of ps) ss) ≡ ps
+columns_hold ps bs vs ss = front ps (drop (length (bins_of ps)) bs) (drop (length (validators_of ps)) vs) (drop (length (stakes_of ps)) ss)
   where
-    front : (ps : List Piece) (bs vs ss : List ℕ) → pieces_in (length ps) (map (λ p. p.bin) ps ++ bs) (map (λ p. p.validator) ps ++ vs) (map (λ p. p.stake) ps ++ ss) ≡ ps
+    front : (ps : List Piece) (bs vs ss : List ℕ) → pieces_in (length ps) (bins_of ps ++ bs) (validators_of ps ++ vs) (stakes_of ps ++ ss) ≡ ps
     front [] bs vs ss = refl
     front (p ∷ ps) bs vs ss = ap (p ∷◌) (front ps bs vs ss)
 
