@@ -73,19 +73,20 @@ sum_up_to before (suc k) (s ∷ sums) never_fall within =
     let one_more = sum_by-cons (λ x. x) (s - before) (take (suc k) (differences s sums)) in
     omega (arith, never_fall.0, sum_up_to s k sums never_fall.1 (omega arith), one_more)
 
--- the sum of the weights before a place but the first is the running sum before it
-pub record SumBefore (sums weights : List ℕ) (at : ℕ) : Type 0 where
-  pub within : at - 1 < length sums
-  pub is : get_or sums (at - 1) 0 ≡ sum (take at weights)
+-- before a place but the first there is a running sum, and it is the sum of the weights before that place
+pub place_before : (sums weights : List ℕ) (at : ℕ) → differences 0 sums ≡ weights → at < length weights → (at ≡ 0 → ⊥) → at - 1 < length sums
+place_before sums weights at shown within some = omega (arith, some, within, ap length shown, length_differences 0 sums)
 
-pub sum_before : (sums weights : List ℕ) (total at : ℕ) → AreSums sums total → differences 0 sums ≡ weights → at < length weights → (at ≡ 0 → ⊥) → SumBefore sums weights at
+pub sum_before : (sums weights : List ℕ) (total at : ℕ) → AreSums sums total → differences 0 sums ≡ weights → at < length weights → (at ≡ 0 → ⊥) →
+    get_or sums (at - 1) 0 ≡ sum (take at weights)
 sum_before sums weights total at are_sums shown within some =
-    let within_sums : at - 1 < length sums = omega (arith, some, within, ap length shown, length_differences 0 sums) in
     let last : suc (at - 1) ≡ at = omega (arith, some) in
-    record {
-      within = within_sums;
-      is = omega (arith, sum_up_to 0 (at - 1) sums are_sums.never_fall within_sums, ap (λ (ws : List ℕ). sum (take (suc (at - 1)) ws)) shown, ap (λ k. sum (take k weights)) last);
-    }
+    omega (
+      arith,
+      sum_up_to 0 (at - 1) sums are_sums.never_fall (place_before sums weights at shown within some),
+      ap (λ (ws : List ℕ). sum (take (suc (at - 1)) ws)) shown,
+      ap (λ k. sum (take k weights)) last,
+    )
 
 pub total_shown : (sums weights : List ℕ) (total : ℕ) → AreSums sums total → differences 0 sums ≡ weights → total ≡ sum weights
 total_shown sums weights total are_sums shown = are_sums.is ∙ ap sum shown
@@ -128,19 +129,12 @@ summed_next i s next weights held sums to within room is fits =
       stored = subst (λ (x : ℕ). Stored (running_sums weights) held (set sums i x) (i + 1)) here (stored_next 0 (omega (arith, long)) (omega (arith, long)) to.stored);
     }
 
--- after the last weight
-pub record Summed (s : ℕ) (weights held sums : List ℕ) : Type 0 where
-  pub total : s ≡ sum weights
-  pub stored : sums ≡ written (running_sums weights) held
-
-pub summed : (i s : ℕ) (weights held sums : List ℕ) → SummedTo i s weights held sums → length weights ≤ i → Summed s weights held sums
+-- after the last weight all running sums are written
+pub summed : (i s : ℕ) (weights held sums : List ℕ) → SummedTo i s weights held sums → length weights ≤ i → sums ≡ written (running_sums weights) held
 summed i s weights held sums to end =
     let long = length_running 0 weights in
     let at_end : i ≡ length (running_sums weights) = omega (arith, to.stored.within, long) in
-    record {
-      total = to.total ∙ ap sum (ap (λ n. take n weights) (at_end ∙ long) ∙ take-length weights);
-      stored = to.stored.holds ∙ ap (λ n. take n (running_sums weights) ++ drop n held) at_end ∙ ap (λ (xs : List ℕ). xs ++ drop (length (running_sums weights)) held) (take-length (running_sums weights));
-    }
+    to.stored.holds ∙ ap (λ n. take n (running_sums weights) ++ drop n held) at_end ∙ ap (λ (xs : List ℕ). xs ++ drop (length (running_sums weights)) held) (take-length (running_sums weights))
 
 differences_running : (before : ℕ) (weights : List ℕ) → differences before (running_from before weights) ≡ weights
 differences_running before [] = refl

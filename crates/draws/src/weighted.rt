@@ -94,6 +94,7 @@ impl<'a> Weights<'a> {
 
     // The sum of the weights before a place.
     #[inline(always)]
+    #[tactic(auto, using(crate::proofs::SumsLemmas::sum_before, crate::proofs::SumsLemmas::place_before))]
     fn sum_before(&self, at: usize) -> u64
         requires { at < length self.now }
         ensures { result ≡ sum (take at self.now) }
