@@ -3,7 +3,7 @@
 
 ghost use Rattle.std.specs.Prelude.{◌≡◌, ◌≤◌, length, IfSome};
 
-use cases::{Cases, Reader, SEATS, STAKES, WORDS};
+use cases::{Cases, Reader, SEATS, STAKES, WORDS, agrees};
 use decaying_acceptance::DecayingAcceptanceSampler;
 use std::alloc::Global;
 use std::io;
@@ -45,7 +45,7 @@ fn one_agrees(text: &mut Reader, alloc: Global) -> Option<bool>
     );
     let answer = sampler.sample_one(&stakes, &mut counts, words);
     let told = answer.map(|s| [s.id.inner(), s.tries as u64, s.words_read as u64]);
-    let same = told.map_err(|refusal| refusal.number()) == expected;
+    let same = agrees(told, expected);
     Some(same && cases::holds(&counts, &before, &counted))
 }
 
@@ -69,7 +69,7 @@ fn quorum_agrees(text: &mut Reader, alloc: Global) -> Option<bool>
     let sampler = DecayingAcceptanceSampler::new(max_samples, allowed as usize, k as usize);
     let answer = sampler.sample_quorum(&stakes, &mut counts, words, &mut seats);
     let told = answer.map(|quorum| [quorum.tries as u64, quorum.words_read as u64]);
-    let same = told.map_err(|refusal| refusal.number()) == expected;
+    let same = agrees(told, expected);
     let same_seats = cases::holds(&seats, &lent, &seated);
     Some(same && same_seats && cases::holds(&counts, &before, &counted))
 }
@@ -89,6 +89,8 @@ fn reset_agrees(text: &mut Reader, alloc: Global) -> Option<bool>
 struct DecayingCases;
 
 impl Cases for DecayingCases {
+    const NAMES: &'static [&'static str] = &["sample_one", "sample_quorum", "reset"];
+
     fn replay(operation: u64, text: &mut Reader, alloc: Global) -> Option<bool> {
         // A stored text names an operation by its number.
         match operation {
@@ -101,6 +103,5 @@ impl Cases for DecayingCases {
 }
 
 fn main(rt: HostRuntime) -> io::Result<()> {
-    let names = ["sample_one", "sample_quorum", "reset"];
-    cases::replay::<DecayingCases>(&rt, ROOM, &names)
+    cases::replay::<DecayingCases>(&rt, ROOM)
 }

@@ -3,7 +3,8 @@
 
 ghost use Rattle.std.specs.Prelude.{◌≡◌, ◌≤◌, length};
 
-use cases::{Cases, Reader, SEATS, STAKES, WORDS};
+use cases::{Cases, Reader, SEATS, STAKES, WORDS, agrees};
+use nodes_cases::{HELD, NODES, hold_after, nodes_before};
 use refusals::Refusal;
 use rotor::{TOTAL_SHREDS, sample_relay};
 use seeds::{rotor_seed, turbine_seed};
@@ -19,9 +20,7 @@ const ROOM: usize = 524288;
 // The most bytes of a seed of a case.
 const BYTES: u64 = 64;
 
-// What each sum of the lent nodes is before a call, and each byte of a lent seed.
-const HELD: u64 = u64::MAX;
-
+// What each byte of a lent seed is before a call.
 const HELD_BYTE: u8 = 165;
 
 // The constants are the Rust's. Nothing calls this: the check proves it.
@@ -73,8 +72,8 @@ fn view_agrees(text: &mut Reader, alloc: Global) -> Option<bool>
     let children_before = cases::lent(most_children, STAKES, alloc)?;
     let mut order = order_before.clone().ok()?;
     let mut children = children_before.clone().ok()?;
-    let mut nodes = [nodes_cases::filled(HELD); 280];
-    let lent = nodes_lent.min(280) as usize;
+    let mut nodes = nodes_before();
+    let lent = nodes_lent.min(NODES as u64) as usize;
     let view = TurbineTree::new(
         &stakes,
         fanout as usize,
@@ -85,7 +84,7 @@ fn view_agrees(text: &mut Reader, alloc: Global) -> Option<bool>
         &mut children,
     );
     let same = answers(view, expected, &children, &named);
-    let same_nodes = nodes_cases::left_so(&nodes, expected.is_ok(), stakes.len(), HELD);
+    let same_nodes = hold_after(&nodes, expected.is_ok(), stakes.len(), HELD);
     let same_lists = cases::holds(&order, &order_before, &ordered)
         && cases::holds(&children, &children_before, &named);
     Some(same && same_nodes && same_lists)
@@ -121,12 +120,14 @@ fn relay_agrees(text: &mut Reader, alloc: Global) -> Option<bool>
     let expected = text.expected::<1>()?;
     let relay = sample_relay(&seats, shred as usize);
     let told = relay.map(|id| [id.inner()]);
-    Some(told.map_err(|refusal| refusal.number()) == expected)
+    Some(agrees(told, expected))
 }
 
 struct TurbineCases;
 
 impl Cases for TurbineCases {
+    const NAMES: &'static [&'static str] = &["view", "turbine_seed", "rotor_seed", "relay"];
+
     fn replay(operation: u64, text: &mut Reader, alloc: Global) -> Option<bool> {
         // A stored text names an operation by its number.
         match operation {
@@ -140,6 +141,5 @@ impl Cases for TurbineCases {
 }
 
 fn main(rt: HostRuntime) -> io::Result<()> {
-    let names = ["view", "turbine_seed", "rotor_seed", "relay"];
-    cases::replay::<TurbineCases>(&rt, ROOM, &names)
+    cases::replay::<TurbineCases>(&rt, ROOM)
 }
