@@ -8,7 +8,7 @@ use Rattle.stake_weighted.specs.Seats.{iid}
 use Rattle.stake_weighted.proofs.AdmittedLemmas.{quorum_reads_only}
 use Rattle.fixed_seats.specs.Fixed.{kept_of, further}
 use Rattle.partition.specs.Partition.{Parted, Held}
-use Rattle.partition.specs.Laws.{ReadsOnly, PartitionReadsOnly}
+use Rattle.partition.specs.Laws.{ReadsOnly}
 use Rattle.partition.proofs.AdmittedLemmas.{partition_reads_only, have_places, have_stake}
 use Rattle.fait_accompli.specs.declared.quorum.Fallback.{Fallback}
 use Rattle.fait_accompli.specs.declared.quorum.Fallback.TheVariants.{Bins, Draws}
@@ -17,7 +17,7 @@ use Rattle.fait_accompli.specs.Calls.{piece_checks, bin_checks}
 use Rattle.fait_accompli.specs.Laws.{FallbackReadsOnly, CommitteeReadsOnly, HasPieces, CommitteeAdmitted}
 
 pub fallback_reads_only : FallbackReadsOnly
-unfolding FallbackReadsOnly PartitionReadsOnly
+unfolding FallbackReadsOnly
 fallback_reads_only (Bins k) weights b first second = partition_reads_only weights b first second
 fallback_reads_only (Draws k) weights b first second = plain (iid b weights first) (quorum_reads_only b weights first)
   where

@@ -48,7 +48,7 @@ bins_read_only weights cap b first second =
     both (Some done) left (Some places, rest) ps few less = record { of_first = few; of_second = less }
 
 pub partition_reads_only : PartitionReadsOnly
-unfolding PartitionReadsOnly BinsReadOnly
+unfolding BinsReadOnly
 partition_reads_only weights b first second = go (b == 0)
   where
     go : (none : Bool) → ReadsOnly first second (if none then (Some (record { drawn = []; pieces = [] }), (first, second)) else over_bins weights (capacity (sum weights) b) b first second)

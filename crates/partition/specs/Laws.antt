@@ -23,7 +23,7 @@ unfoldable pub BinsReadOnly : Type 0
 BinsReadOnly = (weights : List ℕ) (capacity b : ℕ) (first second : List ℕ) → ReadsOnly first second (over_bins weights capacity b first second)
 
 -- and those of a call
-unfoldable pub PartitionReadsOnly : Type 0
+abbrev pub PartitionReadsOnly : Type 0
 PartitionReadsOnly = (weights : List ℕ) (b : ℕ) (first second : List ℕ) → ReadsOnly first second (parted weights b first second)
 
 -- each column has so many places
