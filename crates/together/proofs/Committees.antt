@@ -10,15 +10,14 @@ use lib.Seq.{take_at}
 use borrow.Author.Tests.{eq-eqb, ne_eqb}
 use Rattle.std.proofs.lemmas.List.Folds.{sum_by-replicate}
 use Rattle.std.specs.Prelude.{sum, Some, Ok, Err}
-use Rattle.laws.specs.Buffers.{written}
 use Rattle.laws.specs.Sums.{total}
 use Rattle.laws.specs.Counts.{count}
 use Rattle.laws.proofs.Counts.{count_none}
 use Rattle.laws.proofs.Lists.{sum_append}
 use Rattle.laws.proofs.Std.{total_is_sum, sum_of_is_sum_by}
 use Rattle.refusals.specs.Refusal.{Check, first_of, list_length, size_of_some, is_over_or_zero, short_buffer, sum_past, total_zero, empty_bin}
-use Rattle.fill.specs.declared.piece.Piece.{Piece}
-use Rattle.fill.specs.Piece.{bins_of, validators_of, stakes_of}
+use Rattle.fill.specs.Piece.{pieces_in}
+use Rattle.fill.proofs.ChooseLemmas.{columns_hold}
 use Rattle.fixed_seats.specs.Fixed.{fixed, fixed_of, kept_of, further, repeated}
 use Rattle.fixed_seats.proofs.SeatLemmas.{sum-cons}
 use Rattle.partition.specs.Partition.{capacity, Parted, parted, seat_ids, Given, short_pieces}
@@ -27,7 +26,7 @@ use Rattle.partition.proofs.PieceLaws.{over, over_filled, over_none, over_two, o
 use Rattle.fait_accompli.specs.declared.quorum.Fallback.TheVariants.{Bins}
 use Rattle.fait_accompli.specs.Seats.{committee, seats_of}
 use Rattle.fait_accompli.specs.Calls.{quorum_checks, quorum, told}
-use Rattle.together.specs.Committees.{pieces_in, Fair, CommitteesFair}
+use Rattle.together.specs.Committees.{Fair, CommitteesFair}
 use Rattle.together.proofs.KeptLaws.{fixed_at, kept_at, fixed_le, kept_none, nobody, kept_le}
 
 -- ---- how often an id stands among repeated ids
@@ -54,17 +53,6 @@ length-repeated : (j : ℕ) (cs : List ℕ) → length (repeated j cs) ≡ sum c
 length-repeated j [] = refl
 length-repeated j (c ∷ cs) =
     omega (arith, length-append (replicate c j) (repeated (j + 1) cs), length-replicate c j, length-repeated (j + 1) cs, sum-cons c cs)
-
--- ---- what stands in the columns
-
--- the columns whose front holds the pieces
-columns_hold : (ps : List Piece) (bs vs ss : List ℕ) →
-    pieces_in (length ps) (written (bins_of ps) bs) (written (validators_of ps) vs) (written (stakes_of ps) ss) ≡ ps
-columns_hold ps bs vs ss = front ps (drop (length (bins_of ps)) bs) (drop (length (validators_of ps)) vs) (drop (length (stakes_of ps)) ss)
-  where
-    front : (ps : List Piece) (bs vs ss : List ℕ) → pieces_in (length ps) (bins_of ps ++ bs) (validators_of ps ++ vs) (stakes_of ps ++ ss) ≡ ps
-    front [] bs vs ss = refl
-    front (p ∷ ps) bs vs ss = ap (p ∷◌) (front ps bs vs ss)
 
 -- ---- a committee whose further seats are drawn
 
