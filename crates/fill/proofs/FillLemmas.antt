@@ -6,7 +6,7 @@ use Rattle.std.proofs.Common.{length-append}
 use borrow.Author.Tests.{lt-leb, eqb-true}
 use Rattle.std.proofs.lemmas.List.Sums.{sum_by-cons}
 use Rattle.std.proofs.Math.Seq.{drop-cons}
-use Rattle.std.proofs.lemmas.List.{drop_all}
+use Rattle.std.proofs.lemmas.List.{drop_all, length-map}
 use Rattle.fill.specs.declared.piece.Piece.{Piece}
 use Rattle.fill.specs.declared.columns.Columns.{Columns}
 use Rattle.fill.specs.Columns.{HaveRoom, SameLoans, PutAt, Stored, Begin}
@@ -123,6 +123,11 @@ same_loans old columns new first second = record {
   validators = second.validators ∙ first.validators;
   stakes = second.stakes ∙ first.stakes;
 }
+
+-- as many places as the shares need
+pub room_by_shares : (columns : Columns) (weights order : List ℕ) (shares : List Share) (bins : ℕ) → in_order weights order ≡ shares → HaveRoom columns (length shares + bins) → HaveRoom columns (length order + bins)
+room_by_shares columns weights order shares bins are room =
+    subst (λ (n : ℕ). HaveRoom columns (n + bins)) (sym (ap length are) ∙ length-map order (λ (i : ℕ). record { validator = i; stake = get_or weights i 0 })) room
 
 more_room : (old : Columns) (count at bin n bins : ℕ) → count ≤ at + bin → at < n → bin < bins → HaveRoom old (n + bins) → HaveRoom old (count + 1)
 more_room old count at bin n bins few within low room = record { bins = omega (arith, room.bins); validators = omega (arith, room.validators); stakes = omega (arith, room.stakes) }

@@ -1,10 +1,11 @@
-ghost use Rattle.std.specs.Prelude.{◌≡◌, ◌+◌, ◌*◌, ◌<◌, ◌≤◌, length, All};
+ghost use Rattle.std.specs.Prelude.{◌≡◌, ◌+◌, ◌*◌, ◌<◌, ◌≤◌, length};
 ghost use Rattle.draws.specs.Weighted.{ids};
 ghost use Rattle.fill.specs.Columns.{HaveRoom, SameLoans, Begin};
-ghost use Rattle.fill.specs.Fill.{in_order, bin_total, fill, pieces};
+ghost use Rattle.fill.specs.Fill.{bin_total, fill, pieces};
 ghost use Rattle.fill.specs.Values.{bin_sums, Low, choices, rows_of, replaced};
 
 use crate::columns::Columns;
+use crate::ordered::Ordered;
 use crate::rule::fill;
 
 // Puts in the place of each bin's value the validator that it chooses. A value counts from the first piece of its bin on. Called, and not
@@ -47,23 +48,21 @@ fn choose(columns: &Columns, pieces: usize, seats: &mut [u64])
 /// Fills as many bins as there are values, one in the place of each seat, and puts in its place the validator that it chooses. Gives the
 /// number of pieces.
 pub fn fill_and_choose(
-    weights: &[u64],
-    order: &[u64],
+    ordered: Ordered,
     capacity: u64,
     columns: &mut Columns,
     seats: &mut [u64],
 ) -> usize
     requires some { 0 < length seats.old }
-    requires ids { All (λ i. i < length weights.now) order.now }
-    requires room { bin_total (in_order weights.now order.now) ≤ length seats.old * capacity }
-    requires low { Low (bin_sums capacity (length seats.old) (bin_total (in_order weights.now order.now))) seats.old }
-    requires places { HaveRoom columns.old (length order.now + length seats.old) }
-    ensures count { result ≡ length (pieces 0 (fill capacity (length seats.old) (in_order weights.now order.now))) }
-    ensures begin { Begin columns.old columns.new (pieces 0 (fill capacity (length seats.old) (in_order weights.now order.now))) }
+    requires room { bin_total ordered ≤ length seats.old * capacity }
+    requires low { Low (bin_sums capacity (length seats.old) (bin_total ordered)) seats.old }
+    requires places { HaveRoom columns.old (length ordered + length seats.old) }
+    ensures count { result ≡ length (pieces 0 (fill capacity (length seats.old) ordered.entry)) }
+    ensures begin { Begin columns.old columns.new (pieces 0 (fill capacity (length seats.old) ordered.entry)) }
     ensures same { SameLoans columns.old columns.new }
-    ensures seats { seats.new ≡ ids (choices (fill capacity (length seats.old) (in_order weights.now order.now)) seats.old) }
+    ensures seats { seats.new ≡ ids (choices (fill capacity (length seats.old) ordered.entry) seats.old) }
 {
-    let pieces = fill(weights, order, capacity, seats.len(), columns);
+    let pieces = fill(ordered, capacity, seats.len(), columns);
     choose(columns, pieces, seats);
     pieces
 }

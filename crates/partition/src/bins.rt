@@ -8,7 +8,7 @@ ghost use Rattle.fill.specs.Columns.{HaveRoom, SameLoans};
 use crate::checks::Bins;
 use crate::sources::Sources;
 use draws::shuffle_list;
-use fill::{Columns, draw_values, fill_and_choose};
+use fill::{Columns, Ordered, draw_values, fill_and_choose};
 use words::WordSource;
 
 // The ids from 0 on.
@@ -55,5 +55,6 @@ pub fn draw_bins<A: WordSource, B: WordSource>(
 {
     shuffle_ids(&mut words.first, order)?;
     draw_values(&mut words.second, bins.capacity, bins.sum, seats)?;
-    Some(fill_and_choose(weights, order, bins.capacity, columns, seats))
+    let ordered = Ordered::new(weights, order);
+    Some(fill_and_choose(ordered, bins.capacity, columns, seats))
 }
