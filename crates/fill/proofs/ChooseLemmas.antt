@@ -54,6 +54,9 @@ replaced_full next (p ∷ ps) held full = rw (le-ltb next (length held) full) (g
 pub replaced_end : (next n at : ℕ) (columns : Columns) (held : List ℕ) → n ≤ at → replaced next (drop at (rows_of n columns)) held ≡ held
 replaced_end next n at columns held end = rw (pieces-end columns.bins.now columns.validators.now columns.stakes.now n at end) refl
 
+-- the steps of `choose`
+pub ruleset replacements = (replaced_step, replaced_end, replaced_full)
+
 -- the columns whose front holds the pieces
 pub columns_hold : (ps : List Piece) (bs vs ss : List ℕ) →
     pieces_in (length ps) (written (bins_of ps) bs) (written (validators_of ps) vs) (written (stakes_of ps) ss) ≡ ps

@@ -11,7 +11,7 @@ use crate::rule::fill;
 // Puts in the place of each bin's value the validator that it chooses. A value counts from the first piece of its bin on. Called, and not
 // written out, as `draw_values` is.
 #[inline(never)]
-#[tactic(auto, using(crate::proofs::ChooseLemmas::replaced_step, crate::proofs::ChooseLemmas::replaced_end, crate::proofs::ChooseLemmas::replaced_full))]
+#[tactic(auto, using(crate::proofs::ChooseLemmas::replacements))]
 fn choose(columns: &Columns, pieces: usize, seats: &mut [u64])
     requires { HaveRoom columns.now pieces }
     ensures { seats.new ≡ replaced 0 (rows_of pieces columns.now) seats.old }

@@ -46,8 +46,8 @@ impl PartitionSampler {
     ///
     /// # Errors
     ///
-    /// The first that applies: the list is empty or too long, there are too many bins, the seats or a column are too short for `n` stakes in
-    /// `b` bins (`b` seats, `n + b` pieces), the stakes sum past 64 bits or to 0, a bin would be empty, a word is missing.
+    /// The first that applies: the list is empty or too long, there are too many bins, the seats or a column are too short for `n` stakes
+    /// in `b` bins (`b` seats, `n + b` pieces), the stakes sum past 64 bits or to 0, a bin would be empty, a word is missing.
     pub fn sample_quorum<A: WordSource + Drop, B: WordSource + Drop>(
         self,
         stakes: &[u64],
