@@ -1,7 +1,9 @@
 //! Replays stored cases of Turbine views, of seeds and of relays, and prints for each function how many agree.
 #![tactic(auto)]
 
-ghost use Rattle.std.specs.Prelude.{◌≡◌, ◌≤◌, length};
+ghost use Rattle.std.specs.Prelude.{◌≡◌, ◌≤◌, ◌↔◌, length, take, Err, Ok, IfOk, IfErr, IsTrue};
+ghost use Rattle.refusals.specs.Refusal.{number_of};
+ghost use Rattle.turbine_cases.specs.Told.{numbers_of};
 
 use cases::{Cases, Reader, SEATS, STAKES, WORDS, agrees};
 use nodes_cases::{HELD, NODES, hold_after, nodes_before};
@@ -30,7 +32,9 @@ fn constants()
 {}
 
 // A view's numbers as a stored text writes them: the root, 1 and the parent's id or two zeros, and the words read.
-fn told(view: View) -> [u64; 4] {
+fn told(view: View) -> [u64; 4]
+    ensures { result ≡ numbers_of view }
+{
     let (named, parent) = match view.tree.get_parent() {
         Some(id) => (1, id.inner()),
         None => (0, 0),
@@ -50,7 +54,11 @@ fn answers(
     expected: Result<[u64; 4], u64>,
     children: &[u64],
     named: &[u64],
-) -> bool {
+) -> bool
+    ensures accepted { IfOk view (λ v.
+        IsTrue result ↔ (Ok (numbers_of v) ≡ expected) × (take v.tree.children children.now ≡ named.now)) }
+    ensures refused { IfErr view (λ refusal. IsTrue result ↔ (Err (number_of refusal) ≡ expected)) }
+{
     match view {
         Ok(view) => expected == Ok(told(view)) && view.tree.get_children(children) == named,
         Err(refusal) => expected == Err(refusal.number()),

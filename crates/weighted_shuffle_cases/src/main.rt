@@ -1,7 +1,7 @@
 //! Replays stored cases of the weighted shuffle, and prints for each function how many agree.
 #![tactic(auto)]
 
-ghost use Rattle.std.specs.Prelude.{◌≤◌, length};
+ghost use Rattle.std.specs.Prelude.{◌≡◌, ◌≤◌, ◌↔◌, length, reverse, take, IsTrue};
 
 use cases::{Cases, Reader, STAKES, WORDS, agrees};
 use nodes_cases::{HELD, NODES, filled, hold_after, nodes_before};
@@ -38,15 +38,13 @@ fn turned_down(weights: &[u64], order: &mut [u64], nodes: &mut [Node]) -> Option
 
 // Whether a tree's nodes hold these sums, one after the other.
 fn same_sums(nodes: &[Node], sums: &[u64]) -> bool {
-    sums.len() == 16 * nodes.len()
-        && nodes
-            .iter()
-            .zip(sums.chunks_exact(16))
-            .all(|(node, part)| node.sums.as_slice() == part)
+    nodes.iter().flat_map(|node| node.sums.iter()).eq(sums)
 }
 
 // Whether a list ends with another read backwards.
-fn ends_backwards(list: &[u64], end: &[u64]) -> bool {
+fn ends_backwards(list: &[u64], end: &[u64]) -> bool
+    ensures { IsTrue result ↔ (take (length end.now) (reverse list.now) ≡ end.now) }
+{
     end.len() <= list.len() && list.iter().rev().zip(end).all(|(a, b)| a == b)
 }
 
