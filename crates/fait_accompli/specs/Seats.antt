@@ -2,8 +2,7 @@
 use Rattle.std.specs.Prelude.{ℕ, ◌+◌, Option, Some, None, List, [], ◌++◌}
 use Rattle.words.specs.Draw.{after}
 use Rattle.stake_weighted.specs.Seats.{iid}
-use Rattle.fill.specs.declared.columns.Columns.{Columns}
-use Rattle.fill.specs.Columns.{HaveRoom}
+use Rattle.fill.specs.Columns.{Held, HaveRoom}
 use Rattle.partition.specs.Partition.{Parted, parted, seat_ids}
 use Rattle.fixed_seats.specs.Fixed.{fixed_of, kept_of, further, repeated}
 use Rattle.fait_accompli.specs.declared.quorum.Fallback.{Fallback}
@@ -33,6 +32,6 @@ abbrev pub seats_of : Fallback → List ℕ → Parted → List ℕ
 seats_of f list p = repeated 0 (fixed_of (size_of f) list) ++ seat_ids p
 
 -- over bins the columns have places for the pieces of n stakes and b seats
-abbrev pub Roomy : Fallback → Columns → ℕ → ℕ → Type 0
-Roomy (Bins k) columns n b = HaveRoom columns (n + b)
-Roomy (Draws k) columns n b = Unit {0}
+abbrev pub Roomy : Fallback → Held → ℕ → ℕ → Type 0
+Roomy (Bins k) held n b = HaveRoom held (n + b)
+Roomy (Draws k) held n b = Unit {0}

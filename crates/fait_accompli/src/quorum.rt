@@ -1,7 +1,6 @@
 ghost use Rattle.std.specs.Prelude.{◌≡◌, ◌+◌, ◌≤◌, ◌<◌, length, sum};
 ghost use Rattle.refusals.specs.Refusal.{first_of};
-ghost use Rattle.fill.specs.Columns.{SameLoans};
-ghost use Rattle.partition.specs.Partition.{held_of};
+ghost use Rattle.fill.specs.Columns.{held_of, SameLoans};
 ghost use Rattle.fait_accompli.specs.declared.quorum.Fallback.TheVariants.{Bins, Draws};
 ghost use Rattle.fait_accompli.specs.Seats.{size_of, Roomy};
 ghost use Rattle.fait_accompli.specs.Calls.{piece_checks, committee_over, told, sample_quorum};
@@ -138,7 +137,7 @@ impl FaitAccompli1Sampler {
         requires sum { division.total ≡ sum stakes.now }
         requires size { division.seats ≡ size_of self.fallback }
         requires seats { size_of self.fallback ≤ length seats.old }
-        requires room { Roomy self.fallback columns.old (length stakes.now) (size_of self.fallback) }
+        requires room { Roomy self.fallback (held_of columns.old) (length stakes.now) (size_of self.fallback) }
         ensures told { (result, (seats.new, held_of columns.new))
             ≡ told self.fallback stakes.now (seats.old, held_of columns.old) (A.words words.old.first) (B.words words.old.second)
             (committee_over self.fallback stakes.now (A.words words.old.first) (B.words words.old.second)) }

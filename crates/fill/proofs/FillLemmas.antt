@@ -9,7 +9,7 @@ use Rattle.std.proofs.Math.Seq.{drop-cons}
 use Rattle.std.proofs.lemmas.List.{drop_all, length-map}
 use Rattle.fill.specs.declared.piece.Piece.{Piece}
 use Rattle.fill.specs.declared.columns.Columns.{Columns}
-use Rattle.fill.specs.Columns.{HaveRoom, SameLoans, PutAt, Stored, Begin}
+use Rattle.fill.specs.Columns.{Held, held_of, HaveRoom, SameLoans, PutAt, Stored, Begin}
 use Rattle.fill.proofs.PieceLemmas.{begin-more}
 use Rattle.fill.specs.Fill.{Share, in_order, share_stakes, bin_total, put, taken, left, fill, numbered, pieces}
 
@@ -58,7 +58,7 @@ pieces-none capacity j zero = refl
 pieces-none capacity j (suc b) = pieces-none capacity (j + 1) b
 
 -- what storing a piece at the end of the front leaves
-put_step : (old columns new : Columns) (front : List Piece) (count place : ℕ) (piece : Piece) → count ≡ length front → HaveRoom old (count + 1) → Begin old columns front → Stored columns new count place piece →
+put_step : (old columns new : Columns) (front : List Piece) (count place : ℕ) (piece : Piece) → count ≡ length front → HaveRoom (held_of old) (count + 1) → Begin old columns front → Stored columns new count place piece →
     Begin old new (front ++ added piece) × (place ≡ length (front ++ added piece)) × (place ≤ count + 1)
 put_step old columns new front count place piece at_end room begin stored = go (piece.stake == 0) refl stored.next
   where
@@ -68,7 +68,7 @@ put_step old columns new front count place piece at_end room begin stored = go (
         (rw (append-nil front, stored.none (eqb-true piece.stake 0 zero_stake)) begin, rw (append-nil front) (here ∙ at_end), omega arith)
     go false stake here =
         let positive : 0 < piece.stake = (let h : piece.stake ≡ 0 → ⊥ = eqb-false piece.stake 0 stake in omega arith) in (
-          begin-more old columns new front piece (subst (λ (n : ℕ). HaveRoom old (n + 1)) at_end room) begin (subst (λ (n : ℕ). PutAt columns new n piece) at_end (stored.put positive)),
+          begin-more old columns new front piece (subst (λ (n : ℕ). HaveRoom (held_of old) (n + 1)) at_end room) begin (subst (λ (n : ℕ). PutAt columns new n piece) at_end (stored.put positive)),
           omega (arith, length-append front (piece ∷ [])),
           omega arith,
         )
@@ -125,15 +125,15 @@ same_loans old columns new first second = record {
 }
 
 -- as many places as the shares need
-pub room_by_shares : (columns : Columns) (weights order : List ℕ) (shares : List Share) (bins : ℕ) → in_order weights order ≡ shares → HaveRoom columns (length shares + bins) → HaveRoom columns (length order + bins)
-room_by_shares columns weights order shares bins are room =
-    subst (λ (n : ℕ). HaveRoom columns (n + bins)) (sym (ap length are) ∙ length-map order (λ (i : ℕ). record { validator = i; stake = get_or weights i 0 })) room
+pub room_by_shares : (held : Held) (weights order : List ℕ) (shares : List Share) (bins : ℕ) → in_order weights order ≡ shares → HaveRoom held (length shares + bins) → HaveRoom held (length order + bins)
+room_by_shares held weights order shares bins are room =
+    subst (λ (n : ℕ). HaveRoom held (n + bins)) (sym (ap length are) ∙ length-map order (λ (i : ℕ). record { validator = i; stake = get_or weights i 0 })) room
 
-more_room : (old : Columns) (count at bin n bins : ℕ) → count ≤ at + bin → at < n → bin < bins → HaveRoom old (n + bins) → HaveRoom old (count + 1)
+more_room : (old : Columns) (count at bin n bins : ℕ) → count ≤ at + bin → at < n → bin < bins → HaveRoom (held_of old) (n + bins) → HaveRoom (held_of old) (count + 1)
 more_room old count at bin n bins few within low room = record { bins = omega (arith, room.bins); validators = omega (arith, room.validators); stakes = omega (arith, room.stakes) }
 
 pub step_whole : (old columns new : Columns) (weights order : List ℕ) (capacity bins count bin room at used place : ℕ) → FilledTo old columns weights order capacity bins count bin room at used →
-    HaveRoom old (length order + bins) → at < length order →
+    HaveRoom (held_of old) (length order + bins) → at < length order →
     get_or weights (get_or order at 0) 0 - used ≤ room → (part : ℕ) → part ≡ min (get_or weights (get_or order at 0) 0 - used) room →
     Stored columns new count place (record { bin = bin; validator = get_or order at 0; stake = part }) → SameLoans columns new →
     FilledTo old new weights order capacity bins place bin (room - (get_or weights (get_or order at 0) 0 - used)) (at + 1) 0
@@ -162,7 +162,7 @@ step_whole old columns new weights order capacity bins count bin room at used pl
     }
 
 pub step_part : (old columns new : Columns) (weights order : List ℕ) (capacity bins count bin room at used place : ℕ) → FilledTo old columns weights order capacity bins count bin room at used →
-    HaveRoom old (length order + bins) → at < length order →
+    HaveRoom (held_of old) (length order + bins) → at < length order →
     room < get_or weights (get_or order at 0) 0 - used → (part : ℕ) → part ≡ min (get_or weights (get_or order at 0) 0 - used) room →
     Stored columns new count place (record { bin = bin; validator = get_or order at 0; stake = part }) → SameLoans columns new →
     FilledTo old new weights order capacity bins place (bin + 1) capacity at (used + room)

@@ -5,7 +5,7 @@ use Rattle.std.proofs.Math.Seq.{set-append_seam, drop-cons}
 use Rattle.laws.specs.Buffers.{written}
 use Rattle.fill.specs.declared.piece.Piece.{Piece}
 use Rattle.fill.specs.declared.columns.Columns.{Columns}
-use Rattle.fill.specs.Columns.{HaveRoom, PutAt, Begin}
+use Rattle.fill.specs.Columns.{held_of, HaveRoom, PutAt, Begin}
 
 written-more : (part : Piece → ℕ) (pieces : List Piece) (piece : Piece) (held : List ℕ) → length pieces < length held →
     set (written (map part pieces) held) (length pieces) (part piece) ≡ written (map part (pieces ++ piece ∷ [])) held
@@ -16,7 +16,7 @@ written-more part pieces piece held room =
     (sym (append_assoc (map part pieces) (part piece ∷ []) (drop (suc n) held)))
 
 -- one more piece is put
-pub begin-more : (old columns new : Columns) (pieces : List Piece) (piece : Piece) → HaveRoom old (length pieces + 1) → Begin old columns pieces → PutAt columns new (length pieces) piece →
+pub begin-more : (old columns new : Columns) (pieces : List Piece) (piece : Piece) → HaveRoom (held_of old) (length pieces + 1) → Begin old columns pieces → PutAt columns new (length pieces) piece →
     Begin old new (pieces ++ piece ∷ [])
 begin-more old columns new pieces piece room begin put_at = record {
   bins = put_at.bins ∙ ap (λ (xs : List ℕ). set xs (length pieces) piece.bin) begin.bins ∙ written-more (λ p. p.bin) pieces piece old.bins.now (omega (arith, room.bins));

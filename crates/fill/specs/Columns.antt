@@ -5,11 +5,18 @@ use Rattle.fill.specs.declared.columns.Columns.{Columns}
 use Rattle.fill.specs.declared.piece.Piece.{Piece}
 use Rattle.fill.specs.Piece.{bins_of, validators_of, stakes_of}
 
+-- what three columns hold
+abbrev pub Held : Type 0
+Held = List ℕ × List ℕ × List ℕ
+
+abbrev pub held_of : Columns → Held
+held_of columns = (columns.bins.now, columns.validators.now, columns.stakes.now)
+
 -- each column has so many places
-pub record HaveRoom (columns : Columns) (places : ℕ) : Type 0 where
-  pub bins : places ≤ length columns.bins.now
-  pub validators : places ≤ length columns.validators.now
-  pub stakes : places ≤ length columns.stakes.now
+pub record HaveRoom (held : Held) (places : ℕ) : Type 0 where
+  pub bins : places ≤ length held.0
+  pub validators : places ≤ length held.1
+  pub stakes : places ≤ length held.2
 
 -- the columns are the same three loans
 pub record SameLoans (old new : Columns) : Type 0 where

@@ -11,11 +11,11 @@ pub struct Columns<'a> {
 
 impl Columns<'_> {
     ghost use Rattle.std.specs.Prelude.{◌+◌};
-    ghost use Rattle.fill.specs.Columns.{HaveRoom, SameLoans, PutAt};
+    ghost use Rattle.fill.specs.Columns.{held_of, HaveRoom, SameLoans, PutAt};
 
     // Stores a piece at a place.
     pub(crate) fn put(&mut self, at: usize, piece: Piece)
-        requires { HaveRoom self.old (at + 1) }
+        requires { HaveRoom (held_of self.old) (at + 1) }
         ensures put { PutAt self.old self.new at piece }
         ensures same { SameLoans self.old self.new }
     {

@@ -1,6 +1,6 @@
 ghost use Rattle.std.specs.Prelude.{◌≡◌, ◌+◌, ◌*◌, ◌<◌, ◌≤◌, length};
 ghost use Rattle.fill.specs.Fill.{bin_total, fill, pieces};
-ghost use Rattle.fill.specs.Columns.{HaveRoom, SameLoans, Stored, Begin};
+ghost use Rattle.fill.specs.Columns.{held_of, HaveRoom, SameLoans, Stored, Begin};
 
 use crate::columns::Columns;
 use crate::ordered::Ordered;
@@ -8,7 +8,7 @@ use crate::piece::Piece;
 
 // Stores a piece at a place, and gives the place after it. A zero stake leaves no piece.
 fn put_some(columns: &mut Columns, at: usize, piece: Piece) -> usize
-    requires { HaveRoom columns.old (at + 1) }
+    requires { HaveRoom (held_of columns.old) (at + 1) }
     ensures stored { Stored columns.old columns.new at result piece }
     ensures same { SameLoans columns.old columns.new }
 {
@@ -24,7 +24,7 @@ fn put_some(columns: &mut Columns, at: usize, piece: Piece) -> usize
 pub fn fill(ordered: Ordered, capacity: u64, bins: usize, columns: &mut Columns) -> usize
     requires some { 0 < bins }
     requires room { bin_total ordered ≤ bins * capacity }
-    requires places { HaveRoom columns.old (length ordered + bins) }
+    requires places { HaveRoom (held_of columns.old) (length ordered + bins) }
     ensures count { result ≡ length (pieces 0 (fill capacity bins ordered.entry)) }
     ensures begin { Begin columns.old columns.new (pieces 0 (fill capacity bins ordered.entry)) }
     ensures same { SameLoans columns.old columns.new }

@@ -1,6 +1,6 @@
 ghost use Rattle.std.specs.Prelude.{◌≡◌, ◌+◌, ◌*◌, ◌<◌, ◌≤◌, length};
 ghost use Rattle.draws.specs.Weighted.{ids};
-ghost use Rattle.fill.specs.Columns.{HaveRoom, SameLoans, Begin};
+ghost use Rattle.fill.specs.Columns.{held_of, HaveRoom, SameLoans, Begin};
 ghost use Rattle.fill.specs.Fill.{bin_total, fill, pieces};
 ghost use Rattle.fill.specs.Values.{bin_sums, Low, choices, rows_of, replaced};
 
@@ -13,7 +13,7 @@ use crate::rule::fill;
 #[inline(never)]
 #[tactic(auto, using(crate::proofs::ChooseLemmas::replacements))]
 fn choose(columns: &Columns, pieces: usize, seats: &mut [u64])
-    requires { HaveRoom columns.now pieces }
+    requires { HaveRoom (held_of columns.now) pieces }
     ensures { seats.new ≡ replaced 0 (rows_of pieces columns.now) seats.old }
 {
     if seats.is_empty() {
@@ -56,7 +56,7 @@ pub fn fill_and_choose(
     requires some { 0 < length seats.old }
     requires room { bin_total ordered ≤ length seats.old * capacity }
     requires low { Low (bin_sums capacity (length seats.old) (bin_total ordered)) seats.old }
-    requires places { HaveRoom columns.old (length ordered + length seats.old) }
+    requires places { HaveRoom (held_of columns.old) (length ordered + length seats.old) }
     ensures count { result ≡ length (pieces 0 (fill capacity (length seats.old) ordered.entry)) }
     ensures begin { Begin columns.old columns.new (pieces 0 (fill capacity (length seats.old) ordered.entry)) }
     ensures same { SameLoans columns.old columns.new }

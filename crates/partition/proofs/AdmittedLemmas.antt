@@ -12,10 +12,11 @@ use Rattle.draws.specs.Shuffle.{shuffle}
 use Rattle.draws.proofs.CallLemmas.{passed, some_sum}
 use Rattle.draws.proofs.DrawLemmas.{after_leaves, draws_read_only}
 use Rattle.fill.specs.declared.piece.Piece.{Piece}
+use Rattle.fill.specs.Columns.{Held, HaveRoom}
 use Rattle.fill.specs.Fill.{Share, share_stakes, in_order, fill, pieces}
 use Rattle.fill.specs.Values.{seat, seats}
-use Rattle.partition.specs.Partition.{capacity, most_pieces, short_pieces, Parted, over_bins, Held}
-use Rattle.partition.specs.Laws.{CapacityLeast, ReadsOnly, BinsReadOnly, PartitionReadsOnly, HasPlaces, PartitionAdmitted}
+use Rattle.partition.specs.Partition.{capacity, most_pieces, short_pieces, Parted, over_bins}
+use Rattle.partition.specs.Laws.{CapacityLeast, ReadsOnly, BinsReadOnly, PartitionReadsOnly, PartitionAdmitted}
 use Rattle.partition.proofs.PieceLaws.{capacity_fits}
 use native.Mathlib.Nat.{mul_comm}
 
@@ -60,7 +61,7 @@ pub have_stake : (columns : List Check) (stakes : List ℕ) (checks : List Check
 have_stake columns stakes checks e = some_sum stakes (passed (sum_checks stakes) checks (passed columns (sum_checks stakes ++ checks) e).1).0
 
 -- a place for each piece in each column, where no check of them applies, whatever checks follow
-pub have_places : (held : Held) (needed : ℕ) (checks : List Check) → first_of (short_pieces held needed ++ checks) ≡ Ok tt → HasPlaces held needed
+pub have_places : (held : Held) (needed : ℕ) (checks : List Check) → first_of (short_pieces held needed ++ checks) ≡ Ok tt → HaveRoom held needed
 have_places (bins, validators, stakes) needed checks e =
     let a = past (short_buffer (length bins) needed) (short_buffer (length validators) needed ∷ short_buffer (length stakes) needed ∷ checks) e in
     let b = past (short_buffer (length validators) needed) (short_buffer (length stakes) needed ∷ checks) a.others in

@@ -11,13 +11,13 @@ use Rattle.draws.specs.Weighted.{ids}
 use Rattle.draws.specs.Shuffle.{shuffle}
 use Rattle.fill.specs.declared.piece.Piece.{Piece}
 use Rattle.fill.specs.declared.columns.Columns.{Columns}
-use Rattle.fill.specs.Columns.{Begin}
+use Rattle.fill.specs.Columns.{Held, Begin}
 use Rattle.fill.specs.Fill.{Share, in_order, share_stakes, bin_total, fill, pieces}
 use Rattle.fill.specs.Values.{bin_sums, values_below, Low, choices}
 use Rattle.fill.proofs.FillLemmas.{bin_total-cons}
 use Rattle.fill.proofs.SeatLemmas.{seats_by_values, fill_totals}
 use Rattle.partition.specs.declared.checks.Bins.{Bins}
-use Rattle.partition.specs.Partition.{Parted, over_bins, Held, placed}
+use Rattle.partition.specs.Partition.{Parted, over_bins, placed}
 
 ids-more : (i n : ℕ) → ids_from i (suc n) ≡ ids_from i n ++ (i + n) ∷ []
 ids-more i zero = let same : i ≡ i + 0 = omega arith in ap (λ (k : ℕ). k ∷ []) same

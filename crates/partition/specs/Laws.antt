@@ -2,7 +2,8 @@
 -- An `unfoldable` law stays shut where its theorem is proved: open, the search gives up on `using` of its lemma.
 use Rattle.std.specs.Prelude.{ℕ, ◌+◌, ◌*◌, ◌≤◌, ◌<◌, ◌≡◌, Option, Ok, List, length, sum}
 use Rattle.refusals.specs.Refusal.{first_of}
-use Rattle.partition.specs.Partition.{capacity, most_pieces, Parted, over_bins, parted, Held}
+use Rattle.fill.specs.Columns.{HaveRoom}
+use Rattle.partition.specs.Partition.{capacity, most_pieces, Parted, over_bins, parted}
 use Rattle.partition.specs.Calls.{Lent, checks}
 
 -- b bins of the capacity have room for S, and no smaller capacity has
@@ -26,19 +27,13 @@ BinsReadOnly = (weights : List ℕ) (capacity b : ℕ) (first second : List ℕ)
 abbrev pub PartitionReadsOnly : Type 0
 PartitionReadsOnly = (weights : List ℕ) (b : ℕ) (first second : List ℕ) → ReadsOnly first second (parted weights b first second)
 
--- each column has so many places
-pub record HasPlaces (held : Held) (needed : ℕ) : Type 0 where
-  pub bins : needed ≤ length held.0
-  pub validators : needed ≤ length held.1
-  pub stakes : needed ≤ length held.2
-
 -- the sizes of a call that its checks do not turn down, and the sum of its stakes
 pub record Admitted (stakes : List ℕ) (b : ℕ) (lent : Lent) : Type 0 where
   pub some : 1 ≤ length stakes
   pub list : length stakes ≤ 4096
   pub size : b ≤ 1024
   pub room : b ≤ length lent.0
-  pub pieces : HasPlaces lent.1 (most_pieces (length stakes) b)
+  pub pieces : HaveRoom lent.1 (most_pieces (length stakes) b)
   pub some_stake : 0 < sum stakes
 
 abbrev pub PartitionAdmitted : Type 0

@@ -10,8 +10,8 @@ use Rattle.draws.specs.declared.weighted.Place.{Place}
 use Rattle.draws.specs.Weighted.{ids}
 use Rattle.draws.specs.Shuffle.{shuffle}
 use Rattle.fill.specs.declared.piece.Piece.{Piece}
-use Rattle.fill.specs.declared.columns.Columns.{Columns}
 use Rattle.fill.specs.Piece.{bins_of, validators_of, stakes_of}
+use Rattle.fill.specs.Columns.{Held}
 use Rattle.fill.specs.Fill.{in_order, fill, pieces}
 use Rattle.fill.specs.Values.{seats}
 
@@ -50,14 +50,7 @@ parted weights b first second =
 abbrev pub Given : Type 0
 Given = Result Parted Refusal × (List ℕ × List ℕ)
 
--- what three columns hold
-abbrev pub Held : Type 0
-Held = List ℕ × List ℕ × List ℕ
-
-abbrev pub held_of : Columns → Held
-held_of columns = (columns.bins.now, columns.validators.now, columns.stakes.now)
-
--- and what they hold after pieces are written to their front
+-- what the columns hold after pieces are written to their front
 abbrev pub columns_of : List Piece → Held → Held
 columns_of ps (bins, validators, stakes) = (written (bins_of ps) bins, written (validators_of ps) validators, written (stakes_of ps) stakes)
 

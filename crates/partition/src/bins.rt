@@ -2,8 +2,8 @@ ghost use Rattle.std.specs.Prelude.{◌≡◌, ◌+◌, IsPermutation, length, s
 ghost use Rattle.std.specs.Option.{option_map};
 ghost use Rattle.laws.specs.Orders.{ids_from};
 ghost use Rattle.draws.specs.Shuffle.{shuffle};
-ghost use Rattle.partition.specs.Partition.{held_of, over_bins, placed};
-ghost use Rattle.fill.specs.Columns.{HaveRoom, SameLoans};
+ghost use Rattle.partition.specs.Partition.{over_bins, placed};
+ghost use Rattle.fill.specs.Columns.{held_of, HaveRoom, SameLoans};
 
 use crate::checks::Bins;
 use crate::sources::Sources;
@@ -47,7 +47,7 @@ pub fn draw_bins<A: WordSource, B: WordSource>(
     requires sum { bins.sum ≡ sum weights.now }
     requires order { length order.old ≡ length weights.now }
     requires seats { length seats.old ≡ bins.number }
-    requires room { HaveRoom columns.old (length weights.now + bins.number) }
+    requires room { HaveRoom (held_of columns.old) (length weights.now + bins.number) }
     ensures drawn { (option_map (λ n. (n, seats.new)) result, held_of columns.new, A.words words.new.first, B.words words.new.second)
         ≡ placed (held_of columns.old)
         (over_bins weights.now bins.capacity bins.number (A.words words.old.first) (B.words words.old.second)) }

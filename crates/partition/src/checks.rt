@@ -1,7 +1,8 @@
 ghost use Rattle.std.specs.Prelude.{ℕ, ◌≡◌, ◌-◌, ◌*◌, ◌≤◌, ◌<◌, [], ◌∷◌, Ok};
 ghost use Rattle.std.specs.Result.{result_map_both};
 ghost use Rattle.refusals.specs.Refusal.{first_of, empty_bin, unless};
-ghost use Rattle.partition.specs.Partition.{held_of, short_pieces, most_pieces, capacity};
+ghost use Rattle.fill.specs.Columns.{held_of};
+ghost use Rattle.partition.specs.Partition.{short_pieces, most_pieces, capacity};
 
 use fill::Columns;
 use refusals::{Refusal, check_room};

@@ -1,8 +1,8 @@
 ghost use Rattle.std.specs.Prelude.{◌≡◌, ◌+◌, ◌≤◌, length, sum};
 ghost use Rattle.draws.specs.Call.{or_no_word};
-ghost use Rattle.partition.specs.Partition.{held_of, over_bins};
+ghost use Rattle.partition.specs.Partition.{over_bins};
 ghost use Rattle.partition.specs.Calls.{told, sample_quorum};
-ghost use Rattle.fill.specs.Columns.{HaveRoom, SameLoans};
+ghost use Rattle.fill.specs.Columns.{held_of, HaveRoom, SameLoans};
 
 use crate::bins::draw_bins;
 use crate::checks::{Bins, check_bins, check_columns, most_pieces};
@@ -95,7 +95,7 @@ fn draw_in<A: WordSource, B: WordSource>(
     requires space { length space.old ≡ length stakes.now + bins.number }
     requires sum { bins.sum ≡ sum stakes.now }
     requires seats { bins.number ≤ length seats.old }
-    requires room { HaveRoom columns.old (length stakes.now + bins.number) }
+    requires room { HaveRoom (held_of columns.old) (length stakes.now + bins.number) }
     ensures told { (result, (seats.new, held_of columns.new))
         ≡ told (seats.old, held_of columns.old) (A.words words.old.first) (B.words words.old.second)
         (or_no_word (over_bins stakes.now bins.capacity bins.number (A.words words.old.first) (B.words words.old.second))) }
