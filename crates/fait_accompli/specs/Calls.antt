@@ -36,7 +36,8 @@ quorum_checks f list lent = size_checks f list lent ++ (sum_checks list ++ bin_c
 
 -- then the committee, and 12
 abbrev pub quorum : Fallback → List ℕ → Lent → List ℕ → List ℕ → Given
-quorum f list lent first second = after_checks (first_of (quorum_checks f list lent)) (first, second) (or_no_word (committee f list first second))
+quorum f list lent first second =
+    after_checks (first_of (quorum_checks f list lent)) (first, second) (or_no_word (committee f list first second))
 
 -- the answer, with k' and the words read of each source, and what all that was lent then holds
 abbrev pub told : Fallback → List ℕ → Lent → List ℕ → List ℕ → Given → Result Committee Refusal × Lent
@@ -57,7 +58,8 @@ sample_quorum sampler list lent first second =
 
 -- b seats over any weights: 11 over bins, else what the fallback gives
 abbrev pub others : Fallback → List ℕ → ℕ → List ℕ → List ℕ → Given
-others f weights b first second = after_checks (first_of (bin_checks f weights b)) (first, second) (or_no_word (fallback f weights b first second))
+others f weights b first second =
+    after_checks (first_of (bin_checks f weights b)) (first, second) (or_no_word (fallback f weights b first second))
 
 -- the same over what a list keeps
 abbrev pub committee_over : Fallback → List ℕ → List ℕ → List ℕ → Given

@@ -16,7 +16,8 @@ size_of (Draws k) = k
 -- b seats by plain draws: they make no piece, and leave the second words as they are
 abbrev pub plain : List ℕ → ℕ → List ℕ → List ℕ → Option Parted × (List ℕ × List ℕ)
 plain weights b first second =
-    after (iid b weights first) (λ left. (None, (left, second))) (λ places left. (Some (record { drawn = places; pieces = [] }), (left, second)))
+    after (iid b weights first) (λ left. (None, (left, second)))
+    (λ places left. (Some (record { drawn = places; pieces = [] }), (left, second)))
 
 -- b seats over any weights: over bins they read both words, plain draws read the first
 abbrev pub fallback : Fallback → List ℕ → ℕ → List ℕ → List ℕ → Option Parted × (List ℕ × List ℕ)

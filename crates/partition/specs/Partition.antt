@@ -39,12 +39,14 @@ over_bins weights capacity b first second =
     let order = shuffle (ids_from 0 (length weights)) first in
     let bins = fill capacity b (in_order weights order.1) in
     after (order.0, order.2) (λ left. (None, (left, second)))
-    (λ done left. after (seats bins second) (λ rest. (None, (left, rest))) (λ drawn rest. (Some (record { drawn = drawn; pieces = pieces 0 bins }), (left, rest))))
+    (λ done left. after (seats bins second) (λ rest. (None, (left, rest)))
+    (λ drawn rest. (Some (record { drawn = drawn; pieces = pieces 0 bins }), (left, rest))))
 
 -- the same where there may be no bin: "with 0 bins nothing is shuffled and no word read"
 abbrev pub parted : List ℕ → ℕ → List ℕ → List ℕ → Option Parted × (List ℕ × List ℕ)
 parted weights b first second =
-    (if b == 0 then (Some (record { drawn = []; pieces = [] }), (first, second)) else over_bins weights (capacity (sum weights) b) b first second)
+    (if b == 0 then (Some (record { drawn = []; pieces = [] }), (first, second))
+    else over_bins weights (capacity (sum weights) b) b first second)
 
 -- seats and pieces, or why there are none; and what is left of both sources
 abbrev pub Given : Type 0
