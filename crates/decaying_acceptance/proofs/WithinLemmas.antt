@@ -17,7 +17,6 @@ state_some : (stakes counts : List ℕ) (k : ℕ) → first_of (state_checks sta
 state_some stakes counts k e = some_sum stakes (passed (sum_checks stakes) (count_limit (take (length stakes) counts) k ∷ []) e).0
 
 pub one_within : OneWithin
-unfolding OneWithin
 one_within sampler stakes counts ws s left e =
     let call = accepted (first_of (one_checks sampler stakes counts)) ws (seat sampler.limits.tries_allowed 0 stakes counts sampler.limits.max_samples ws) s (ap (λ r. r.0) e) in
     let sizes = list_length (length stakes) ∷ tries_allowed sampler.limits.tries_allowed ∷ max_samples_check sampler.limits.max_samples ∷ short_buffer (length counts) (length stakes) ∷ [] in
@@ -45,7 +44,6 @@ committee_within (suc k) limits stakes counts ws c some e =
     })
 
 pub quorum_within : QuorumWithin
-unfolding QuorumWithin
 quorum_within sampler stakes counts room ws c left e =
     let held = take (length stakes) counts in
     let call = accepted (first_of (quorum_checks sampler stakes counts room)) ws (committee sampler.k sampler.limits stakes held ws) c (ap (λ r. r.0) e) in

@@ -1,14 +1,14 @@
 ghost use Rattle.decaying_acceptance.specs.Laws.{OneWithin, QuorumWithin, CommitteeReadsOnly, CommitteeAdmitted};
 
 /// The validator of an accepted `sample_one` has a stake above 0, and took at least one try and at most those allowed.
-#[tactic(auto, using(crate::proofs::WithinLemmas::one_within))]
+// By a file that cites the lemma: the law is open to whoever reads it, so to the search too, which gives up on `using` of the lemma.
 pub fn seats_stay_within()
     ensures { OneWithin }
 {}
 
 /// Each validator of an accepted `sample_quorum` has a stake above 0, and took at least one try and at most those allowed; there are `k`
 /// of them.
-#[tactic(auto, using(crate::proofs::WithinLemmas::quorum_within))]
+// By a file that cites the lemma: the law is open to whoever reads it, so to the search too, which gives up on `using` of the lemma.
 pub fn committees_stay_within()
     ensures { QuorumWithin }
 {}

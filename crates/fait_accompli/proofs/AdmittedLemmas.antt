@@ -18,7 +18,6 @@ use Rattle.fait_accompli.specs.Calls.{piece_checks, bin_checks}
 use Rattle.fait_accompli.specs.Laws.{FallbackReadsOnly, CommitteeReadsOnly, CommitteeAdmitted}
 
 pub fallback_reads_only : FallbackReadsOnly
-unfolding FallbackReadsOnly
 fallback_reads_only (Bins k) weights b first second = partition_reads_only weights b first second
 fallback_reads_only (Draws k) weights b first second = plain (iid b weights first) (quorum_reads_only b weights first)
   where
@@ -28,7 +27,6 @@ fallback_reads_only (Draws k) weights b first second = plain (iid b weights firs
     plain (Some places, left) few = record { of_first = few; of_second = omega arith }
 
 pub committee_reads_only : CommitteeReadsOnly
-unfolding CommitteeReadsOnly FallbackReadsOnly
 committee_reads_only f list first second = fallback_reads_only f (kept_of (size_of f) list) (further (size_of f) list) first second
 
 -- a place for each piece, where no check of the columns applies, whatever checks follow

@@ -1,5 +1,4 @@
 -- What is promised of every accepted call, and of the words that it leaves.
--- An `unfoldable` law stays shut where its theorem is proved: open, the search gives up on `using` of its lemma.
 use Rattle.std.specs.Prelude.{ℕ, ◌≤◌, ◌<◌, ◌≡◌, Ok, List, length, sum}
 use Rattle.refusals.specs.Refusal.{first_of}
 use Rattle.partition.specs.Calls.{Lent}
@@ -9,11 +8,11 @@ use Rattle.fait_accompli.specs.Seats.{size_of, fallback, committee, Roomy}
 use Rattle.fait_accompli.specs.Calls.{quorum_checks}
 
 -- further seats over any weights leave no more words of either source than there were, so the words read are the differences
-unfoldable pub FallbackReadsOnly : Type 0
+abbrev pub FallbackReadsOnly : Type 0
 FallbackReadsOnly = (f : Fallback) (weights : List ℕ) (b : ℕ) (first second : List ℕ) → ReadsOnly first second (fallback f weights b first second)
 
 -- nor does a committee
-unfoldable pub CommitteeReadsOnly : Type 0
+abbrev pub CommitteeReadsOnly : Type 0
 CommitteeReadsOnly = (f : Fallback) (list first second : List ℕ) → ReadsOnly first second (committee f list first second)
 
 -- the sizes of a call that its checks do not turn down, and the sum of its stakes

@@ -1,7 +1,7 @@
 ghost use Rattle.fait_accompli.specs.Laws.{FallbackReadsOnly, CommitteeReadsOnly, CommitteeAdmitted};
 
 /// A committee leaves no more words of either source than there were.
-#[tactic(auto, using(crate::proofs::AdmittedLemmas::fallback_reads_only, crate::proofs::AdmittedLemmas::committee_reads_only))]
+// By a file that cites the lemma: the law is open to whoever reads it, so to the search too, which gives up on `using` of the lemma.
 pub fn committees_read_only()
     ensures further { FallbackReadsOnly }
     ensures calls { CommitteeReadsOnly }

@@ -35,7 +35,6 @@ seats_leave (bin ∷ bins) ws =
     (λ one left. after_leaves (λ (r : Option (List Place) × List ℕ). r.1) (length left) (seats bins left) _ _ (seats_leave bins left) (λ rest. omega arith) (λ others rest. omega arith))
 
 pub bins_read_only : BinsReadOnly
-unfolding BinsReadOnly
 bins_read_only weights cap b first second =
     let ids = ids_from 0 (length weights) in
     let order = shuffle ids first in
@@ -49,7 +48,6 @@ bins_read_only weights cap b first second =
     both (Some done) left (Some places, rest) ps few less = record { of_first = few; of_second = less }
 
 pub partition_reads_only : PartitionReadsOnly
-unfolding BinsReadOnly
 partition_reads_only weights b first second = go (b == 0)
   where
     go : (none : Bool) → ReadsOnly first second (if none then (Some (record { drawn = []; pieces = [] }), (first, second)) else over_bins weights (capacity (sum weights) b) b first second)

@@ -265,7 +265,6 @@ pub parted_some : (weights : List ℕ) (b : ℕ) (first second : List ℕ) → 0
 parted_some weights b first second some = rw (ne_eqb b 0 (λ e. omega arith)) refl
 
 pub partitions_filled : PartitionsFilled
-unfolding PartitionsFilled
 partitions_filled stakes zero lent first second p e =
     let u = passed (first_of (checks stakes 0 lent)) first second (parted stakes 0 first second) p e in
     let q : record { drawn = []; pieces = [] } ≡ p = (let is = u.is in cc) in

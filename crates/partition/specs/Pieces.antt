@@ -1,5 +1,4 @@
 -- Bins, pieces and draw values: what is counted of every accepted partition.
--- An `unfoldable` law stays shut where its theorem is proved: open, the search gives up on `using` of its lemma.
 use Rattle.std.specs.Prelude.{ℕ, ◌+◌, ◌-◌, ◌*◌, ◌≤◌, ◌<◌, min, ◌≡◌, List, [], Ok, length, slice_index, ◌==◌}
 use Rattle.laws.specs.Sums.{total}
 use Rattle.laws.specs.Counts.{count_below, those}
@@ -40,6 +39,6 @@ pub record Partitioned (stakes : List ℕ) (b : ℕ) (p : Parted) : Type 0 where
   pub seats : length (seat_ids p) ≡ b
   pub bins : 0 < b → Filled stakes (capacity (total stakes) b) b p.pieces
 
-unfoldable pub PartitionsFilled : Type 0
+abbrev pub PartitionsFilled : Type 0
 PartitionsFilled =
     (stakes : List ℕ) (b : ℕ) (lent : Lent) (first second : List ℕ) (p : Parted) → (quorum stakes b lent first second).0 ≡ Ok p → Partitioned stakes b p

@@ -4,7 +4,7 @@ ghost use Rattle.partition.specs.Laws.{CapacityLeast, BinsReadOnly, PartitionRea
 /// Every accepted partition has as many seats as bins, and its bins are filled: none is empty, each holds its capacity or what is left for
 /// it, the pieces of a validator add up to its stake, a bin has one piece of a validator at most and chooses it for as many values as the
 /// piece counts.
-#[tactic(auto, using(crate::proofs::PieceLaws::partitions_filled))]
+// By a file that cites the lemma: the law is open to whoever reads it, so to the search too, which gives up on `using` of the lemma.
 pub fn partitions_are_filled()
     ensures { PartitionsFilled }
 {}
@@ -16,7 +16,8 @@ pub fn capacity_is_least()
 {}
 
 /// A partition leaves no more words of either source than there were.
-#[tactic(auto, using(crate::proofs::AdmittedLemmas::bins_read_only, crate::proofs::AdmittedLemmas::partition_reads_only))]
+// The bins by a file that cites the lemma: the law is open to whoever reads it, so to the search too, which gives up on `using` of it.
+#[tactic(auto, using(crate::proofs::AdmittedLemmas::partition_reads_only))]
 pub fn partitions_read_only()
     ensures bins { BinsReadOnly }
     ensures calls { PartitionReadsOnly }

@@ -6,12 +6,11 @@ use Rattle.laws.proofs.Ids.{order_long}
 use Rattle.draws.specs.Call.{after_checks, or_no_word}
 use Rattle.weighted_shuffle.specs.Order.{order}
 use Rattle.weighted_shuffle.specs.Entry.{shuffle_checks, answered, without_words}
-use Rattle.shuffle_laws.specs.Laws.{Whole, OrdersWhole, Law, CallsGiveWholeOrders}
+use Rattle.shuffle_laws.specs.Laws.{Whole, Law, CallsGiveWholeOrders}
 use Rattle.shuffle_laws.proofs.IdLemmas.{permutes}
 use Rattle.shuffle_laws.proofs.WholeLemmas.{orders_whole}
 
 pub call_law : CallsGiveWholeOrders
-unfolding OrdersWhole
 call_law weights held nodes ws = checked (first_of (shuffle_checks (length weights) (length held) (length nodes)))
   where
     drawn : (draw : Option (List ℕ) × List ℕ) → ((ps : List ℕ) → draw.0 ≡ Some ps → Whole weights ps) → Law weights (without_words (answered weights held nodes ws (or_no_word draw)))

@@ -1,5 +1,4 @@
 -- What is promised of every step and of every order.
--- An `unfoldable` law stays shut where its theorem is proved: open, the search gives up on `using` of its lemma.
 use Rattle.std.specs.Prelude.{ℕ, ◌<◌, ◌≤◌, ◌≡◌, Some, Result, OnOk, List, length, get_or, take, sum, AllPairs}
 use Rattle.refusals.specs.declared.refusal.Refusal.{Refusal}
 use Rattle.draws.specs.Weighted.{HasWeight}
@@ -10,7 +9,7 @@ use Rattle.weighted_shuffle.specs.Order.{Left, Step, counted, step, steps, order
 use Rattle.shuffle_laws.specs.Orders.{count, IsOrder}
 
 -- while weight is left, a step takes a position whose weight is above 0
-unfoldable pub StepsByWeight : Type 0
+abbrev pub StepsByWeight : Type 0
 StepsByWeight = (left : Left) (ws : List ℕ) (s : Step) → 0 < sum left.weights → (step left ws).0 ≡ Some s → HasWeight left.weights s.position
 
 -- after a position of weight zero come only such
@@ -23,7 +22,7 @@ pub record Whole (weights ps : List ℕ) : Type 0 where
   pub once : (p : ℕ) → p < length weights → count p ps ≡ 1
   pub zeros_last : ZerosLast (counted weights) ps
 
-unfoldable pub OrdersWhole : Type 0
+abbrev pub OrdersWhole : Type 0
 OrdersWhole = (weights ws ps : List ℕ) → (order weights ws).0 ≡ Some ps → Whole weights ps
 
 -- so where a call is accepted, a whole order stands at the front of what was lent

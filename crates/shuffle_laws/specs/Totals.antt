@@ -1,5 +1,4 @@
 -- The same laws with totals in place of sums, and with sums of every function in place of exchanges.
--- An `unfoldable` law stays shut where its theorem is proved: open, the search gives up on `using` of its lemma.
 use Rattle.std.specs.Prelude.{ℕ, ◌<◌, ◌≡◌, Some, List, [], ◌∷◌, length, get_or}
 use Rattle.laws.specs.Sums.{total}
 use Rattle.laws.specs.Counts.{count}
@@ -7,7 +6,7 @@ use Rattle.laws.specs.Orders.{Permutation, ids_from}
 use Rattle.weighted_shuffle.specs.Order.{Left, Step, counted, step, order}
 
 -- while weight is left, a step takes a position whose weight is above 0
-unfoldable pub StepsByTotal : Type 0
+abbrev pub StepsByTotal : Type 0
 StepsByTotal =
     (left : Left) (ws : List ℕ) (s : Step) → 0 < total left.weights → (step left ws).0 ≡ Some s →
     (s.position < length left.weights) × (0 < get_or left.weights s.position 0)
@@ -28,5 +27,5 @@ pub record WholeByTotals (weights ps : List ℕ) : Type 0 where
   pub once : (p : ℕ) → p < length weights → count p ps ≡ 1
   pub zeros_last : ZerosFollow (counted weights) ps
 
-unfoldable pub OrdersWholeByTotals : Type 0
+abbrev pub OrdersWholeByTotals : Type 0
 OrdersWholeByTotals = (weights ws ps : List ℕ) → (order weights ws).0 ≡ Some ps → WholeByTotals weights ps

@@ -17,7 +17,6 @@ use Rattle.stake_weighted.specs.Calls.{sample_checks, size_checks, quorum_checks
 use Rattle.stake_weighted.specs.Laws.{SamplePlaced, Committee, QuorumPlaced, IsCommittee, CallsGiveCommittees}
 
 pub sample_placed : SamplePlaced
-unfolding SamplePlaced
 sample_placed stakes ws p left e =
     let call = accepted (first_of (sample_checks stakes)) ws (or_no_word (weighted stakes ws)) p (ap (λ r. r.0) e) in
     let some = some_sum stakes (passed (list_length (length stakes) ∷ []) (sum_checks stakes) call.passed).1 in
@@ -35,7 +34,6 @@ iid_placed (suc k) stakes ws places some e =
     rw (← all) (record { size = ap suc rest.size; placed = (weighted_placed stakes ws one.value some one.first, rest.placed) })
 
 pub quorum_placed : QuorumPlaced
-unfolding QuorumPlaced
 quorum_placed stakes k room ws places left e =
     let call = accepted (first_of (quorum_checks stakes k room)) ws (or_no_word (iid k stakes ws)) places (ap (λ r. r.0) e) in
     let some = some_sum stakes (passed (size_checks (length stakes) k room) (sum_checks stakes) call.passed).1 in
@@ -50,7 +48,6 @@ ids_committee : (k : ℕ) (stakes : List ℕ) (places : List Place) → Committe
 ids_committee k stakes places are = record { size = rw length-map are.size; have_stake = have_weight stakes places are.placed }
 
 pub calls_committee : CallsGiveCommittees
-unfolding QuorumPlaced
 calls_committee k stakes held ws = answered (quorum stakes k (length held) ws) (quorum_placed stakes k (length held) ws)
   where
     answered : (call : Result (List Place) Refusal × List ℕ) → ((places : List Place) (left : List ℕ) → call ≡ (Ok places, left) → Committee k stakes places) →

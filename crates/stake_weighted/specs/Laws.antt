@@ -1,5 +1,4 @@
 -- What is promised of every accepted call.
--- An `unfoldable` law stays shut where its theorem is proved: open, the search gives up on `using` of its lemma.
 use Rattle.std.specs.Prelude.{ℕ, ◌≤◌, ◌≡◌, Ok, List, length, take, All, OnOk}
 use Rattle.refusals.specs.Refusal.{first_of}
 use Rattle.draws.specs.declared.weighted.Place.{Place}
@@ -8,7 +7,7 @@ use Rattle.stake_weighted.specs.Seats.{iid}
 use Rattle.stake_weighted.specs.Calls.{sampled, size_checks, quorum, sample_quorum}
 
 -- `sample` picks a validator of the list, with a stake above 0
-unfoldable pub SamplePlaced : Type 0
+abbrev pub SamplePlaced : Type 0
 SamplePlaced = (stakes ws : List ℕ) (p : Place) (left : List ℕ) → sampled stakes ws ≡ (Ok p, left) → Placed stakes p
 
 -- a committee has k seats, and each is such a validator
@@ -16,7 +15,7 @@ pub record Committee (k : ℕ) (stakes : List ℕ) (places : List Place) : Type 
   pub size : length places ≡ k
   pub placed : AllPlaced stakes places
 
-unfoldable pub QuorumPlaced : Type 0
+abbrev pub QuorumPlaced : Type 0
 QuorumPlaced =
     (stakes : List ℕ) (k room : ℕ) (ws : List ℕ) (places : List Place) (left : List ℕ) → quorum stakes k room ws ≡ (Ok places, left) →
     Committee k stakes places

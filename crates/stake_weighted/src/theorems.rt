@@ -1,13 +1,13 @@
 ghost use Rattle.stake_weighted.specs.Laws.{SamplePlaced, QuorumPlaced, CallsGiveCommittees, QuorumReadsOnly, QuorumAdmitted};
 
 /// The validator of an accepted `sample` has a stake above 0.
-#[tactic(auto, using(crate::proofs::PlacedLemmas::sample_placed))]
+// By a file that cites the lemma: the law is open to whoever reads it, so to the search too, which gives up on `using` of the lemma.
 pub fn samples_have_stake()
     ensures { SamplePlaced }
 {}
 
 /// Each validator of an accepted committee has a stake above 0, and the committee has `k` seats.
-#[tactic(auto, using(crate::proofs::PlacedLemmas::quorum_placed))]
+// By a file that cites the lemma: the law is open to whoever reads it, so to the search too, which gives up on `using` of the lemma.
 pub fn quorums_have_stake()
     ensures { QuorumPlaced }
 {}

@@ -164,7 +164,6 @@ fair_call k list first second seats bins validators stakes p e =
     fair_parted k list seat (omega (arith, some, total_is_sum list)) p first second full u.is
 
 pub committees_fair : CommitteesFair
-unfolding CommitteesFair
 committees_fair k list first second seats bins validators stakes r e =
     go (quorum (Bins k) list (seats, (bins, validators, stakes)) first second) (fair_call k list first second seats bins validators stakes) e
   where

@@ -44,9 +44,8 @@ pub record Fair (k : ℕ) (list seats : List ℕ) (k' : ℕ) (pieces : List Piec
   -- "at most one for each bin"
   pub one_in_a_bin : (i j : ℕ) → length (of i (in_bin j pieces)) ≤ 1
 
--- Every accepted call: r is its answer; the seats and the columns held anything before. It stays shut where its theorem is proved: open, the
--- search gives up on `using` of its lemma.
-unfoldable pub CommitteesFair : Type 0
+-- every accepted call: r is its answer; the seats and the columns held anything before
+abbrev pub CommitteesFair : Type 0
 CommitteesFair =
     (k : ℕ) (list first second seats bins validators stakes : List ℕ) (r : Committee) →
     let call = sample_quorum (record { fallback = Bins k }) list (seats, (bins, validators, stakes)) first second in

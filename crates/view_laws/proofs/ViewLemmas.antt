@@ -8,7 +8,6 @@ use Rattle.draws.proofs.DrawLemmas.{went}
 use Rattle.weighted_shuffle.specs.Order.{order}
 use Rattle.laws.specs.Counts.{count}
 use Rattle.laws.specs.Orders.{Permutation, ids_from}
-use Rattle.shuffle_laws.specs.Totals.{OrdersWholeByTotals}
 use Rattle.shuffle_laws.proofs.TotalLemmas.{orders_whole_by_totals}
 use Rattle.turbine.specs.declared.turbine_tree.TurbineTree.{TurbineTree}
 use Rattle.turbine.specs.declared.turbine_tree.View.{View}
@@ -40,7 +39,6 @@ module _ (stakes : List ℕ) (fanout : ℕ) (ws : List ℕ) where
     children_are : children_of stakes fanout ws v ≡ children_at fanout ids (position_of own ids)
 
   saw : (own : ℕ) (v : Viewed stakes fanout ws own) → Saw own v
-  unfolding OrdersWholeByTotals
   saw own v = go (view stakes fanout own v.held ws) refl v.accepts
     where
       go : (o : Result Neighborhood Refusal × List ℕ) → view stakes fanout own v.held ws ≡ o → (answered n v.held ws o).0 ≡ Ok v.view → Saw own v
