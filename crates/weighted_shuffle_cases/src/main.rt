@@ -1,7 +1,8 @@
 //! Replays stored cases of the weighted shuffle, and prints for each function how many agree.
 #![tactic(auto)]
 
-ghost use Rattle.std.specs.Prelude.{◌≡◌, ◌≤◌, ◌↔◌, length, reverse, take, IsTrue};
+ghost use Rattle.std.specs.Prelude.{◌≡◌, ◌≤◌, ◌↔◌, [], Err, length, reverse, take, IfSome, IsTrue};
+ghost use Rattle.weighted_shuffle.specs.Entry.{shuffle};
 
 use cases::{Cases, Reader, STAKES, WORDS, agrees};
 use nodes_cases::{HELD, NODES, filled, hold_after, nodes_before};
@@ -31,7 +32,9 @@ fn sizes_agree(text: &mut Reader) -> Option<bool>
 }
 
 // The refusal by which its input turns a call down: without a word, one that its input passes only lacks this.
-fn turned_down(weights: &[u64], order: &mut [u64], nodes: &mut [Node]) -> Option<Refusal> {
+fn turned_down(weights: &[u64], order: &mut [u64], nodes: &mut [Node]) -> Option<Refusal>
+    ensures { IfSome result (λ refusal. (Err refusal, order.new, nodes.new) ≡ shuffle weights.now order.old nodes.old []) }
+{
     let refusal = shuffle(weights, ListWords::new(&[], 0), order, nodes).err()?;
     (refusal != Refusal::NoWordLeft).then_some(refusal)
 }
