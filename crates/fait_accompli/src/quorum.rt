@@ -25,6 +25,7 @@ pub struct Committee {
 
 /// Where the seats that are not fixed come from, with the size of the committee: bins, one seat from each, or plain draws. How many of the
 /// seats they are is not said here, since it follows from the list.
+// Both variants carry the size, since by the same rule the record names a fallback with the numbers that belong to it.
 #[derive(Clone, Copy, Debug, PartialEq, Eq)]
 pub enum Fallback {
     Bins(usize),
@@ -123,7 +124,8 @@ impl FaitAccompli1Sampler {
         )
     }
 
-    // A committee, drawn in scratch space for the shuffled order or the running sums, the stakes kept, and the seats.
+    // A committee, drawn in scratch space for the shuffled order or the running sums, the stakes kept, and the seats. That the total is the
+    // sum of the list is asked: a struct of list and total would hold the total a second time, beside that of `Division`.
     fn draw_in<A: WordSource, B: WordSource>(
         self,
         space: &mut [u64],

@@ -21,6 +21,8 @@ fn put_some(columns: &mut Columns, at: usize, piece: Piece) -> usize
 
 /// Fills bins to their capacity with ordered weights, writes the pieces to the front of the columns, and gives their number, which is at
 /// most that of the weights and the bins together.
+// Facts of the bins are asked by themselves: `fill`, `fill_and_choose` and `draw_values` need one or two each of what `Bins` of `partition`
+// holds, and that stands above.
 pub fn fill(ordered: Ordered, capacity: u64, bins: usize, columns: &mut Columns) -> usize
     requires some { 0 < bins }
     requires room { bin_total ordered ≤ bins * capacity }

@@ -47,6 +47,7 @@ fn choose(columns: &Columns, pieces: usize, seats: &mut [u64])
 
 /// Fills as many bins as there are values, one in the place of each seat, and puts in its place the validator that it chooses. Gives the
 /// number of pieces.
+// Facts of the bins are asked by themselves, as in `fill`.
 pub fn fill_and_choose(
     ordered: Ordered,
     capacity: u64,

@@ -34,7 +34,8 @@ fn shuffle_ids<W: WordSource>(words: &mut W, order: &mut [u64]) -> Option<()>
 /// One seat from each of the bins: the weights are shuffled by the first words, the seats are drawn by the second, and then the pieces
 /// are written. Gives their number; `None` where the words run out, which leaves the columns as they were.
 // Seats and columns in one struct would be no plainer: the columns are those lent, but the seats are scratch space and no lent ones, so
-// the entries would take the struct apart and build another for each call.
+// the entries would take the struct apart and build another for each call. That the sum is that of the list is asked: a struct of list and
+// sum would hold the sum a second time, beside that of `Bins`.
 #[tactic(auto, using(crate::proofs::BinLemmas::ids_low, crate::proofs::BinLemmas::enough_room))]
 pub fn draw_bins<A: WordSource, B: WordSource>(
     weights: &[u64],

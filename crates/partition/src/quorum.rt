@@ -83,7 +83,8 @@ impl PartitionSampler {
     }
 }
 
-// A partition, drawn in scratch space for the shuffled order and the seats.
+// A partition, drawn in scratch space for the shuffled order and the seats. That the sum is that of the list is asked, as in `draw_bins`;
+// the lengths too, since the entry has checked or made them and a slice's type does not say its length.
 fn draw_in<A: WordSource, B: WordSource>(
     space: &mut [u64],
     stakes: &[u64],

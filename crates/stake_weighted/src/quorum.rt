@@ -59,7 +59,8 @@ impl IidQuorumSampler {
         )
     }
 
-    // A committee, drawn in scratch space for the running sums and the seats.
+    // A committee, drawn in scratch space for the running sums and the seats. The lengths are asked, since the entry has checked or made
+    // them and a slice's type does not say its length.
     fn draw_in<W: WordSource>(
         self,
         space: &mut [u64],

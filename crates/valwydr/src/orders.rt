@@ -80,7 +80,7 @@ pub extern "C" fn valwydr_turbine_tree_new(
 {
     let own = ValidatorIndex::new(own_id);
     let words = ListWords::new(list, cursor);
-    // No `map`, as the check can't build its own part of the proof of one over a view.
+    // By a `match`: tried with `map`, and the proof of its closure over a view did not close.
     let numbers = match TurbineTree::new(stakes, fanout, own, words, order, nodes, children) {
         Ok(view) => Ok(view_values(view)),
         Err(refusal) => Err(refusal),

@@ -5,7 +5,7 @@ ghost use Rattle.valwydr.specs.Stored.{value_told, stake_told, digits_told};
 
 use types::{Stake, write_decimal};
 
-// Whether there is a value, which is then stored.
+// Whether there is a value, which is then stored: a bool beside a stored value, as C has no `Option`.
 fn store<T: Copy>(value: Option<T>, stored: &mut T) -> bool
     ensures { (result, stored.new) ≡ value_told stored.old value }
 {

@@ -38,8 +38,9 @@ pub fn shuffle<W: WordSource + Drop>(
     shuffle_into(weights, &mut words, order, nodes)
 }
 
-/// The same for buffers that are known to be long enough, by lent words. That the weights are at most 4,096 is asked, here and below, as
-/// no type of a slice says it.
+/// The same for buffers that are known to be long enough, by lent words. That the weights are at most 4,096 is asked, here and below: a
+/// type for such a list would be made by the entries alone, and taken apart at once.
+// Order and nodes stand side by side, here and below: C lends them so, and a struct of both would be taken apart at once.
 #[tactic(auto, using(tree::proofs::SizeLemmas::size_64, tree::proofs::SizeLemmas::size_1024, tree::proofs::SizeLemmas::shape))]
 pub fn shuffle_into<W: WordSource>(
     weights: &[u64],
