@@ -132,79 +132,77 @@ room_by_shares held weights order shares bins are room =
 more_room : (old : Columns) (count at bin n bins : ℕ) → count ≤ at + bin → at < n → bin < bins → HaveRoom (held_of old) (n + bins) → HaveRoom (held_of old) (count + 1)
 more_room old count at bin n bins few within low room = record { bins = omega (arith, room.bins); validators = omega (arith, room.validators); stakes = omega (arith, room.stakes) }
 
-pub step_whole : (old columns new : Columns) (weights order : List ℕ) (capacity bins count bin room at used place : ℕ) → FilledTo old columns weights order capacity bins count bin room at used →
-    HaveRoom (held_of old) (length order + bins) → at < length order →
-    get_or weights (get_or order at 0) 0 - used ≤ room → (part : ℕ) → part ≡ min (get_or weights (get_or order at 0) 0 - used) room →
-    Stored columns new count place (record { bin = bin; validator = get_or order at 0; stake = part }) → SameLoans columns new →
-    FilledTo old new weights order capacity bins place bin (room - (get_or weights (get_or order at 0) 0 - used)) (at + 1) 0
-step_whole old columns new weights order capacity bins count bin room at used place to places within small part is stored loans =
-    let v = get_or order at 0 in
-    let w = get_or weights v 0 in
-    let b = bins - (bin + 1) in
-    let xs = in_order weights (drop (at + 1) order) in
-    let piece : Piece = record { bin = bin; validator = v; stake = w - used } in
-    let head : reduced used (in_order weights (drop at order)) ≡ record { validator = v; stake = w - used } ∷ xs = shares_at weights order at used within in
-    let put = put_step old columns new to.front count place piece to.count_is (more_room old count at bin (length order) bins to.few within to.bin_low places) to.begin (stored_as columns new count place bin v part piece.stake (omega arith) stored) in
-    record {
-      front = to.front ++ added piece;
-      count_is = put.1;
-      begin = put.0;
-      same = same_loans old columns new to.same loans;
-      whole =
-          ap (λ (rest : List Share). (to.front ++ added piece) ++ to_come capacity bin (room - (w - used)) b rest) (reduced-zero xs)
-          ∙ append_assoc to.front (added piece) (to_come capacity bin (room - (w - used)) b xs)
-          ∙ ap (λ (others : List Piece). to.front ++ others) (sym (take_whole capacity bin room b v (w - used) xs small) ∙ ap (to_come capacity bin room b) (sym head))
-          ∙ to.whole;
-      bin_low = to.bin_low;
-      few = omega (arith, put.2, to.few);
-      used_low = λ h. omega arith;
-      fits = rw (reduced-zero xs) (omega (arith, to.fits, ap bin_total head, bin_total-cons (record { validator = v; stake = w - used }) xs));
-    }
+module _ {old columns : Columns} {weights order : List ℕ} {capacity bins count bin room at used : ℕ} (to : FilledTo old columns weights order capacity bins count bin room at used) where
+  pub step_whole : (new : Columns) (place : ℕ) → HaveRoom (held_of old) (length order + bins) → at < length order →
+      get_or weights (get_or order at 0) 0 - used ≤ room → (part : ℕ) → part ≡ min (get_or weights (get_or order at 0) 0 - used) room →
+      Stored columns new count place (record { bin = bin; validator = get_or order at 0; stake = part }) → SameLoans columns new →
+      FilledTo old new weights order capacity bins place bin (room - (get_or weights (get_or order at 0) 0 - used)) (at + 1) 0
+  step_whole new place places within small part is stored loans =
+      let v = get_or order at 0 in
+      let w = get_or weights v 0 in
+      let b = bins - (bin + 1) in
+      let xs = in_order weights (drop (at + 1) order) in
+      let piece : Piece = record { bin = bin; validator = v; stake = w - used } in
+      let head : reduced used (in_order weights (drop at order)) ≡ record { validator = v; stake = w - used } ∷ xs = shares_at weights order at used within in
+      let put = put_step old columns new to.front count place piece to.count_is (more_room old count at bin (length order) bins to.few within to.bin_low places) to.begin (stored_as columns new count place bin v part piece.stake (omega arith) stored) in
+      record {
+        front = to.front ++ added piece;
+        count_is = put.1;
+        begin = put.0;
+        same = same_loans old columns new to.same loans;
+        whole =
+            ap (λ (rest : List Share). (to.front ++ added piece) ++ to_come capacity bin (room - (w - used)) b rest) (reduced-zero xs)
+            ∙ append_assoc to.front (added piece) (to_come capacity bin (room - (w - used)) b xs)
+            ∙ ap (λ (others : List Piece). to.front ++ others) (sym (take_whole capacity bin room b v (w - used) xs small) ∙ ap (to_come capacity bin room b) (sym head))
+            ∙ to.whole;
+        bin_low = to.bin_low;
+        few = omega (arith, put.2, to.few);
+        used_low = λ h. omega arith;
+        fits = rw (reduced-zero xs) (omega (arith, to.fits, ap bin_total head, bin_total-cons (record { validator = v; stake = w - used }) xs));
+      }
 
-pub step_part : (old columns new : Columns) (weights order : List ℕ) (capacity bins count bin room at used place : ℕ) → FilledTo old columns weights order capacity bins count bin room at used →
-    HaveRoom (held_of old) (length order + bins) → at < length order →
-    room < get_or weights (get_or order at 0) 0 - used → (part : ℕ) → part ≡ min (get_or weights (get_or order at 0) 0 - used) room →
-    Stored columns new count place (record { bin = bin; validator = get_or order at 0; stake = part }) → SameLoans columns new →
-    FilledTo old new weights order capacity bins place (bin + 1) capacity at (used + room)
-step_part old columns new weights order capacity bins count bin room at used place to places within large part is stored loans =
-    let v = get_or order at 0 in
-    let w = get_or weights v 0 in
-    let b = bins - (bin + 1 + 1) in
-    let xs = in_order weights (drop (at + 1) order) in
-    let piece : Piece = record { bin = bin; validator = v; stake = room } in
-    let head : reduced used (in_order weights (drop at order)) ≡ record { validator = v; stake = w - used } ∷ xs = shares_at weights order at used within in
-    let over : w - (used + room) ≡ w - used - room = omega arith in
-    let next : reduced (used + room) (in_order weights (drop at order)) ≡ record { validator = v; stake = w - used - room } ∷ xs =
-    shares_at weights order at (used + room) within ∙ ap (λ (n : ℕ). record { validator = v; stake = n } ∷ xs) over in
-    let sums = bin_total-cons (record { validator = v; stake = w - used }) xs in
-    let more : 0 < bins - (bin + 1) = another_bin (bins - (bin + 1)) capacity room (w - used) large (omega (arith, to.fits, ap bin_total head, sums)) in
-    let one_less : bins - (bin + 1) ≡ suc b = omega arith in
-    let put = put_step old columns new to.front count place piece to.count_is (more_room old count at bin (length order) bins to.few within to.bin_low places) to.begin (stored_as columns new count place bin v part piece.stake (omega arith) stored) in
-    record {
-      front = to.front ++ added piece;
-      count_is = put.1;
-      begin = put.0;
-      same = same_loans old columns new to.same loans;
-      whole =
-          ap (λ (rest : List Share). (to.front ++ added piece) ++ to_come capacity (bin + 1) capacity b rest) next
-          ∙ append_assoc to.front (added piece) (to_come capacity (bin + 1) capacity b (record { validator = v; stake = w - used - room } ∷ xs))
-          ∙ ap (λ (others : List Piece). to.front ++ others)
-          (sym (take_part capacity bin room b v (w - used) xs large) ∙ ap (to_come capacity bin room (suc b)) (sym head) ∙ ap (λ (n : ℕ). to_come capacity bin room n (reduced used (in_order weights (drop at order)))) (sym one_less))
-          ∙ to.whole;
-      bin_low = omega arith;
-      few = omega (arith, put.2, to.few);
-      used_low = λ h. omega arith;
-      fits = omega (arith, to.fits, ap bin_total head, sums, ap bin_total next, bin_total-cons (record { validator = v; stake = w - used - room }) xs, ap (λ (n : ℕ). n * capacity) one_less, suc-mul b capacity);
-    }
+  pub step_part : (new : Columns) (place : ℕ) → HaveRoom (held_of old) (length order + bins) → at < length order →
+      room < get_or weights (get_or order at 0) 0 - used → (part : ℕ) → part ≡ min (get_or weights (get_or order at 0) 0 - used) room →
+      Stored columns new count place (record { bin = bin; validator = get_or order at 0; stake = part }) → SameLoans columns new →
+      FilledTo old new weights order capacity bins place (bin + 1) capacity at (used + room)
+  step_part new place places within large part is stored loans =
+      let v = get_or order at 0 in
+      let w = get_or weights v 0 in
+      let b = bins - (bin + 1 + 1) in
+      let xs = in_order weights (drop (at + 1) order) in
+      let piece : Piece = record { bin = bin; validator = v; stake = room } in
+      let head : reduced used (in_order weights (drop at order)) ≡ record { validator = v; stake = w - used } ∷ xs = shares_at weights order at used within in
+      let over : w - (used + room) ≡ w - used - room = omega arith in
+      let next : reduced (used + room) (in_order weights (drop at order)) ≡ record { validator = v; stake = w - used - room } ∷ xs =
+      shares_at weights order at (used + room) within ∙ ap (λ (n : ℕ). record { validator = v; stake = n } ∷ xs) over in
+      let sums = bin_total-cons (record { validator = v; stake = w - used }) xs in
+      let more : 0 < bins - (bin + 1) = another_bin (bins - (bin + 1)) capacity room (w - used) large (omega (arith, to.fits, ap bin_total head, sums)) in
+      let one_less : bins - (bin + 1) ≡ suc b = omega arith in
+      let put = put_step old columns new to.front count place piece to.count_is (more_room old count at bin (length order) bins to.few within to.bin_low places) to.begin (stored_as columns new count place bin v part piece.stake (omega arith) stored) in
+      record {
+        front = to.front ++ added piece;
+        count_is = put.1;
+        begin = put.0;
+        same = same_loans old columns new to.same loans;
+        whole =
+            ap (λ (rest : List Share). (to.front ++ added piece) ++ to_come capacity (bin + 1) capacity b rest) next
+            ∙ append_assoc to.front (added piece) (to_come capacity (bin + 1) capacity b (record { validator = v; stake = w - used - room } ∷ xs))
+            ∙ ap (λ (others : List Piece). to.front ++ others)
+            (sym (take_part capacity bin room b v (w - used) xs large) ∙ ap (to_come capacity bin room (suc b)) (sym head) ∙ ap (λ (n : ℕ). to_come capacity bin room n (reduced used (in_order weights (drop at order)))) (sym one_less))
+            ∙ to.whole;
+        bin_low = omega arith;
+        few = omega (arith, put.2, to.few);
+        used_low = λ h. omega arith;
+        fits = omega (arith, to.fits, ap bin_total head, sums, ap bin_total next, bin_total-cons (record { validator = v; stake = w - used - room }) xs, ap (λ (n : ℕ). n * capacity) one_less, suc-mul b capacity);
+      }
 
--- after the last stake all pieces stand
-pub finished : (old columns : Columns) (weights order : List ℕ) (capacity bins count bin room at used : ℕ) → FilledTo old columns weights order capacity bins count bin room at used → length order ≤ at →
-    Begin old columns (pieces 0 (fill capacity bins (in_order weights order))) × (count ≡ length (pieces 0 (fill capacity bins (in_order weights order))))
-finished old columns weights order capacity bins count bin room at used to end =
-    let b = bins - (bin + 1) in
-    let none : drop at order ≡ [] = drop_all at order end in
-    let nothing : to_come capacity bin room b (reduced used (in_order weights (drop at order))) ≡ [] =
-    ap (λ (o : List ℕ). to_come capacity bin room b (reduced used (in_order weights o))) none ∙ pieces-none capacity (bin + 1) b in
-    let all : to.front ≡ pieces 0 (fill capacity bins (in_order weights order)) =
-    sym (append-nil to.front) ∙ ap (λ (others : List Piece). to.front ++ others) (sym nothing) ∙ to.whole in
-    (subst (Begin old columns) all to.begin, to.count_is ∙ ap length all)
+  -- after the last stake all pieces stand
+  pub finished : length order ≤ at → Begin old columns (pieces 0 (fill capacity bins (in_order weights order))) × (count ≡ length (pieces 0 (fill capacity bins (in_order weights order))))
+  finished end =
+      let b = bins - (bin + 1) in
+      let none : drop at order ≡ [] = drop_all at order end in
+      let nothing : to_come capacity bin room b (reduced used (in_order weights (drop at order))) ≡ [] =
+      ap (λ (o : List ℕ). to_come capacity bin room b (reduced used (in_order weights o))) none ∙ pieces-none capacity (bin + 1) b in
+      let all : to.front ≡ pieces 0 (fill capacity bins (in_order weights order)) =
+      sym (append-nil to.front) ∙ ap (λ (others : List Piece). to.front ++ others) (sym nothing) ∙ to.whole in
+      (subst (Begin old columns) all to.begin, to.count_is ∙ ap length all)
