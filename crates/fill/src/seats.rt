@@ -8,8 +8,8 @@ use crate::columns::Columns;
 use crate::ordered::Ordered;
 use crate::rule::fill;
 
-// Puts in the place of each bin's value the validator that it chooses. A value counts from the first piece of its bin on. Called, and not
-// written out, as `draw_values` is.
+// Puts in the place of each bin's value the validator that it chooses. A value counts from the first piece of its bin on.
+// Called, and not written out.
 #[inline(never)]
 #[tactic(auto, using(crate::proofs::ChooseLemmas::replacements))]
 fn choose(columns: &Columns, pieces: usize, seats: &mut [u64])
