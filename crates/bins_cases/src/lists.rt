@@ -8,6 +8,7 @@ use std::alloc::Global;
 const PIECES: u64 = 5300;
 
 // What a call over bins is lent, or is to leave at the front of it: seats, and the bins, validators and stakes of the pieces.
+// Four lists side by side, as C lends them to the calls.
 #[derive(Clone, Debug, Drop)]
 pub(crate) struct Lists {
     pub(crate) seats: Vec<u64>,
