@@ -14,7 +14,8 @@ use words::ListWords;
 // A text of so many bytes is too long. A test of the stored texts reads it in each program.
 const ROOM: usize = 262144;
 
-// Numbers as counts; `None` where one exceeds a u32.
+// Numbers as counts; `None` where one exceeds a u32. By a loop: `try_collect` takes no `Option`s, and no error that is not made of an
+// `AllocError`.
 fn counts_of(numbers: &[u64], alloc: Global) -> Option<Vec<u32>>
     ensures { IfSome result (λ counts. counts.items ≡ numbers.now) }
 {
@@ -79,11 +80,12 @@ fn reset_agrees(text: &mut Reader, alloc: Global) -> Option<bool>
     ensures { length text.new ≤ length text.old }
 {
     let before = text.list(STAKES, alloc)?;
-    let refusal = text.number()?;
-    let counted = text.list_if(refusal == 0, STAKES, alloc)?;
+    let expected = text.expected::<0>()?;
+    let counted = text.list_if(expected.is_ok(), STAKES, alloc)?;
     let mut counts = counts_of(&before, alloc)?;
     DecayingAcceptanceSampler::new(1.0, 1, 1).reset(&mut counts);
-    Some(refusal == 0 && counted.len() == counts.len() && cases::holds(&counts, &before, &counted))
+    let same = agrees(Ok([]), expected) && counted.len() == counts.len();
+    Some(same && cases::holds(&counts, &before, &counted))
 }
 
 struct DecayingCases;

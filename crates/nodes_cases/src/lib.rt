@@ -1,4 +1,4 @@
-//! Nodes that a program lends to the call it tries: a run that holds the same before, and what the call left of it.
+//! Nodes that a program lends to a call: what they hold before it, and what they must hold after it.
 #![tactic(auto)]
 
 ghost use Rattle.std.specs.Prelude.{◌≡◌, replicate, if◌then◌else◌};
@@ -40,21 +40,21 @@ fn kept(nodes: &[Node], held: u64) -> bool
     nodes.iter().all(|node| holds(node, held))
 }
 
-// Whether the nodes of the tree of n weights are zeros, and each sum of the others is `held`, as before: so after an accepted call.
-fn cleared(nodes: &[Node], n: usize, held: u64) -> bool
-    ensures { result ≡ zeros_then n held nodes.now }
+// Whether the nodes of the tree of n weights are zeros, and each sum of the others is as before: so after an accepted call.
+fn cleared(nodes: &[Node], n: usize) -> bool
+    ensures { result ≡ zeros_then n 18446744073709551615 nodes.now }
 {
     let size = get_num_nodes_and_tree_size(n).tree_size.min(nodes.len());
-    kept(&nodes[..size], 0) && kept(&nodes[size..], held)
+    kept(&nodes[..size], 0) && kept(&nodes[size..], HELD)
 }
 
 /// Whether the nodes are as a call for n weights, which was accepted or refused, must leave them.
-pub fn hold_after(nodes: &[Node], accepted: bool, n: usize, held: u64) -> bool
-    ensures { result ≡ (if accepted then zeros_then n held nodes.now else every_sum held nodes.now) }
+pub fn hold_after(nodes: &[Node], accepted: bool, n: usize) -> bool
+    ensures { result ≡ (if accepted then zeros_then n 18446744073709551615 nodes.now else every_sum 18446744073709551615 nodes.now) }
 {
     if accepted {
-        cleared(nodes, n, held)
+        cleared(nodes, n)
     } else {
-        kept(nodes, held)
+        kept(nodes, HELD)
     }
 }

@@ -6,7 +6,7 @@ ghost use Rattle.refusals.specs.Refusal.{number_of};
 ghost use Rattle.turbine_cases.specs.Told.{numbers_of};
 
 use cases::{Cases, Reader, SEATS, STAKES, WORDS, agrees};
-use nodes_cases::{HELD, NODES, hold_after, nodes_before};
+use nodes_cases::{NODES, hold_after, nodes_before};
 use refusals::Refusal;
 use rotor::{TOTAL_SHREDS, sample_relay};
 use seeds::{rotor_seed, turbine_seed};
@@ -47,8 +47,8 @@ fn told(view: View) -> [u64; 4]
     ]
 }
 
-// Whether a call answers as stated and, where it is accepted, names these children. By a `match`: the check of borrows does not cover a
-// view that is used again after `map`.
+// Whether a call answers as stated and, where it is accepted, names these children.
+// By a `match`: tried with `map`, and the check of borrows refused the view's second use.
 fn answers(
     view: Result<View, Refusal>,
     expected: Result<[u64; 4], u64>,
@@ -92,7 +92,7 @@ fn view_agrees(text: &mut Reader, alloc: Global) -> Option<bool>
         &mut children,
     );
     let same = answers(view, expected, &children, &named);
-    let same_nodes = hold_after(&nodes, expected.is_ok(), stakes.len(), HELD);
+    let same_nodes = hold_after(&nodes, expected.is_ok(), stakes.len());
     let same_lists = cases::holds(&order, &order_before, &ordered)
         && cases::holds(&children, &children_before, &named);
     Some(same && same_nodes && same_lists)
@@ -108,15 +108,15 @@ fn seed_agrees<F: FnOnce(u64, u64, &mut [u8]) -> Result<(), Refusal>>(
     ensures { length text.new ≤ length text.old }
 {
     let [slot, part, places] = text.numbers::<3>()?;
-    let refusal = text.number()?;
-    let wanted = text.list_if(refusal == 0, BYTES, alloc)?;
+    let expected = text.expected::<0>()?;
+    let wanted = text.list_if(expected.is_ok(), BYTES, alloc)?;
     let lent = places.min(BYTES) as usize;
     let before = [u64::from(HELD_BYTE); 64];
     let mut seed = [HELD_BYTE; 64];
     let seed = &mut seed[..lent];
     let answer = write_seed(slot, part, seed);
-    let told = answer.map_or_else(|refusal| refusal.number(), |()| 0);
-    Some(told == refusal && cases::holds(seed, &before[..lent], &wanted))
+    let same = agrees(answer.map(|()| []), expected);
+    Some(same && cases::holds(seed, &before[..lent], &wanted))
 }
 
 // A relay. The number is the shred's position; the case expects the relay's id.

@@ -28,10 +28,13 @@ fn sizes_agree(text: &mut Reader) -> Option<bool>
     let count = text.number()?;
     let expected = text.expected::<2>()?;
     let sizes = get_num_nodes_and_tree_size(count as usize);
-    Some(expected == Ok([sizes.num_nodes as u64, sizes.tree_size as u64]))
+    Some(agrees(
+        Ok([sizes.num_nodes as u64, sizes.tree_size as u64]),
+        expected,
+    ))
 }
 
-// The refusal by which its input turns a call down: without a word, one that its input passes only lacks this.
+// The refusal for which the input alone is the reason: the call is made without a word, so `NoWordLeft` is no such refusal.
 fn turned_down(weights: &[u64], order: &mut [u64], nodes: &mut [Node]) -> Option<Refusal>
     ensures { IfSome result (λ refusal. (Err refusal, order.new, nodes.new) ≡ shuffle weights.now order.old nodes.old []) }
 {
@@ -84,6 +87,7 @@ fn begin_agrees(text: &mut Reader, alloc: Global) -> Option<bool>
     let mut nodes = nodes_before();
     let lent = nodes_lent.min(NODES as u64) as usize;
     let refusal = turned_down(&weights, &mut order, &mut nodes[..lent]);
+    // Not by `agrees`: of an accepted call there is no answer here, and `begins` compares what it must begin with.
     match expected {
         Ok(weight) => Some(refusal.is_none() && begins(&weights, weight[0], &sums, &zeros, alloc)?),
         Err(number) => Some(refusal.map(|r| r.number()) == Some(number)),
@@ -104,7 +108,7 @@ fn shuffle_agrees(text: &mut Reader, alloc: Global) -> Option<bool>
     let mut nodes = nodes_before();
     let words = ListWords::new(&list, cursor as usize);
     let answer = shuffle(&weights, words, &mut order, &mut nodes);
-    let same_nodes = hold_after(&nodes, answer.is_ok(), weights.len(), HELD);
+    let same_nodes = hold_after(&nodes, answer.is_ok(), weights.len());
     let told = answer.map(|order| [order.words_read as u64]);
     let same = agrees(told, expected);
     Some(same && same_nodes && cases::holds(&order, &before, &ordered))
