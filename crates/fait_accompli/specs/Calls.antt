@@ -5,8 +5,8 @@ use Rattle.refusals.specs.Refusal.{Check, first_of, list_length, size_of_some, s
 use Rattle.laws.specs.Buffers.{written}
 use Rattle.words.specs.Draw.{words_read}
 use Rattle.draws.specs.Call.{after_checks, or_no_word}
-use Rattle.fill.specs.Columns.{Held}
-use Rattle.partition.specs.Partition.{capacity, short_pieces, seat_ids, Given, columns_of}
+use Rattle.fill.specs.Columns.{Held, columns_of}
+use Rattle.partition.specs.Partition.{capacity, short_pieces, seat_ids, Given}
 use Rattle.partition.specs.Calls.{Lent}
 use Rattle.fixed_seats.specs.Fixed.{kept_of, further}
 use Rattle.fait_accompli.specs.declared.quorum.Fallback.{Fallback}

@@ -1,6 +1,6 @@
 ghost use Rattle.std.specs.Prelude.{◌≡◌, ◌+◌, ◌*◌, ◌<◌, ◌≤◌, length};
 ghost use Rattle.fill.specs.Fill.{bin_total, fill, pieces};
-ghost use Rattle.fill.specs.Columns.{held_of, HaveRoom, SameLoans, Stored, Begin};
+ghost use Rattle.fill.specs.Columns.{held_of, columns_of, HaveRoom, SameLoans, Stored};
 
 use crate::columns::Columns;
 use crate::ordered::Ordered;
@@ -28,7 +28,7 @@ pub fn fill(ordered: Ordered, capacity: u64, bins: usize, columns: &mut Columns)
     requires room { bin_total ordered ≤ bins * capacity }
     requires places { HaveRoom (held_of columns.old) (length ordered + bins) }
     ensures count { result ≡ length (pieces 0 (fill capacity bins ordered.entry)) }
-    ensures begin { Begin columns.old columns.new (pieces 0 (fill capacity bins ordered.entry)) }
+    ensures begin { held_of columns.new ≡ columns_of (pieces 0 (fill capacity bins ordered.entry)) (held_of columns.old) }
     ensures same { SameLoans columns.old columns.new }
 {
     let Ordered { weights, order } = ordered;

@@ -1,6 +1,6 @@
 ghost use Rattle.std.specs.Prelude.{◌≡◌, ◌+◌, ◌*◌, ◌<◌, ◌≤◌, length};
 ghost use Rattle.draws.specs.Weighted.{ids};
-ghost use Rattle.fill.specs.Columns.{held_of, HaveRoom, SameLoans, Begin};
+ghost use Rattle.fill.specs.Columns.{held_of, columns_of, HaveRoom, SameLoans};
 ghost use Rattle.fill.specs.Fill.{bin_total, fill, pieces};
 ghost use Rattle.fill.specs.Values.{bin_sums, Low, choices, rows_of, replaced};
 
@@ -59,7 +59,7 @@ pub fn fill_and_choose(
     requires low { Low (bin_sums capacity (length seats.old) (bin_total ordered)) seats.old }
     requires places { HaveRoom (held_of columns.old) (length ordered + length seats.old) }
     ensures count { result ≡ length (pieces 0 (fill capacity (length seats.old) ordered.entry)) }
-    ensures begin { Begin columns.old columns.new (pieces 0 (fill capacity (length seats.old) ordered.entry)) }
+    ensures begin { held_of columns.new ≡ columns_of (pieces 0 (fill capacity (length seats.old) ordered.entry)) (held_of columns.old) }
     ensures same { SameLoans columns.old columns.new }
     ensures seats { seats.new ≡ ids (choices (fill capacity (length seats.old) ordered.entry) seats.old) }
 {

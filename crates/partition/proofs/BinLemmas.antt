@@ -11,7 +11,7 @@ use Rattle.draws.specs.Weighted.{ids}
 use Rattle.draws.specs.Shuffle.{shuffle}
 use Rattle.fill.specs.declared.piece.Piece.{Piece}
 use Rattle.fill.specs.declared.columns.Columns.{Columns}
-use Rattle.fill.specs.Columns.{Held, Begin}
+use Rattle.fill.specs.Columns.{Held, held_of, columns_of}
 use Rattle.fill.specs.Fill.{Share, in_order, share_stakes, bin_total, fill, pieces}
 use Rattle.fill.specs.Values.{bin_sums, values_below, Low, choices}
 use Rattle.fill.proofs.FillLemmas.{bin_total-cons}
@@ -47,11 +47,11 @@ total-ids n front (w ∷ weights) at =
     omega (arith, rest, get_or_at front w weights 0 n at, bin_total-cons (share_of (front ++ w ∷ weights) n) (in_order (front ++ w ∷ weights) (ids_from (suc n) (length weights))), sum_by-cons (λ x. x) w weights)
 
 -- the columns hold the pieces
-placed_pieces : (old new : Columns) (places : List Place) (ps : List Piece) (left rest : List ℕ) → Begin old new ps →
+placed_pieces : (old new : Columns) (places : List Place) (ps : List Piece) (left rest : List ℕ) → held_of new ≡ columns_of ps (held_of old) →
     ◌≡◌ {A = Option (ℕ × List ℕ) × Held × List ℕ × List ℕ}
-    (Some (length ps, ids places), (new.bins.now, new.validators.now, new.stakes.now), left, rest)
-    (placed (old.bins.now, old.validators.now, old.stakes.now) (Some (record { drawn = places; pieces = ps }), (left, rest)))
-placed_pieces old new places ps left rest begin = rw (begin.bins, begin.validators, begin.stakes) refl
+    (Some (length ps, ids places), held_of new, left, rest)
+    (placed (held_of old) (Some (record { drawn = places; pieces = ps }), (left, rest)))
+placed_pieces old new places ps left rest begin = ap (λ (held : Held). (Some (length ps, ids places), held, left, rest)) begin
 
 pub ids_low : (weights order : List ℕ) → IsPermutation (ids_from 0 (length weights)) order → All (λ i. i < length weights) order
 ids_low weights order permuted = All-permutation (λ i. i < length weights) (ids_from 0 (length weights)) order permuted (ids-low 0 (length weights) (length weights) (omega arith))
@@ -86,11 +86,11 @@ module _ (weights : List ℕ) (bins : Bins) (order : List ℕ) (summed : bins.su
 
     -- all that a call gives
     pub all_placed : (count : ℕ) (vs rest seats : List ℕ) (old new : Columns) → ◌≡◌ {A = Option (List ℕ) × List ℕ} (Some vs, rest) (values_below (bin_sums bins.capacity bins.number bins.sum) second) →
-        count ≡ length (pieces 0 filled) → Begin old new (pieces 0 filled) → seats ≡ ids (choices filled vs) →
+        count ≡ length (pieces 0 filled) → held_of new ≡ columns_of (pieces 0 filled) (held_of old) → seats ≡ ids (choices filled vs) →
         ◌≡◌ {A = Option (ℕ × List ℕ) × Held × List ℕ × List ℕ}
-        (Some (count, seats), (new.bins.now, new.validators.now, new.stakes.now), left, rest)
-        (placed (old.bins.now, old.validators.now, old.stakes.now) (over_bins weights bins.capacity bins.number first second))
+        (Some (count, seats), held_of new, left, rest)
+        (placed (held_of old) (over_bins weights bins.capacity bins.number first second))
     all_placed count vs rest seats old new drawn count_is begin seats_are =
         rw (count_is, seats_are)
         (placed_pieces old new (choices filled vs) (pieces 0 filled) left rest begin
-        ∙ ap (placed (old.bins.now, old.validators.now, old.stakes.now)) (all_drawn vs rest drawn))
+        ∙ ap (placed (held_of old)) (all_drawn vs rest drawn))

@@ -1,7 +1,6 @@
 -- "Partition of total S into b bins", and one seat from each.
 use Rattle.std.specs.Prelude.{ℕ, ◌+◌, if◌then◌else◌, Option, Some, None, Result, List, [], ◌∷◌, length, sum, ◌==◌}
 use Rattle.std.specs.Int.{div_ceil}
-use Rattle.laws.specs.Buffers.{written}
 use Rattle.laws.specs.Orders.{ids_from}
 use Rattle.refusals.specs.declared.refusal.Refusal.{Refusal}
 use Rattle.refusals.specs.Refusal.{Check, short_buffer}
@@ -10,8 +9,7 @@ use Rattle.draws.specs.declared.weighted.Place.{Place}
 use Rattle.draws.specs.Weighted.{ids}
 use Rattle.draws.specs.Shuffle.{shuffle}
 use Rattle.fill.specs.declared.piece.Piece.{Piece}
-use Rattle.fill.specs.Piece.{bins_of, validators_of, stakes_of}
-use Rattle.fill.specs.Columns.{Held}
+use Rattle.fill.specs.Columns.{Held, columns_of}
 use Rattle.fill.specs.Fill.{in_order, fill, pieces}
 use Rattle.fill.specs.Values.{seats}
 
@@ -51,10 +49,6 @@ parted weights b first second =
 -- seats and pieces, or why there are none; and what is left of both sources
 abbrev pub Given : Type 0
 Given = Result Parted Refusal × (List ℕ × List ℕ)
-
--- what the columns hold after pieces are written to their front
-abbrev pub columns_of : List Piece → Held → Held
-columns_of ps (bins, validators, stakes) = (written (bins_of ps) bins, written (validators_of ps) validators, written (stakes_of ps) stakes)
 
 -- each column needs a place for each piece
 abbrev pub short_pieces : Held → ℕ → List Check
