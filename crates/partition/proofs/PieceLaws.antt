@@ -232,13 +232,14 @@ module _ (weights : List ℕ) (cap b : ℕ) (second : List ℕ) {p : Parted} (o 
 
 -- ---- every accepted partition
 
--- a call that is not refused has passed its checks, and among them 11
-last_passes : (cs : List Check) (c : Check) → first_of (cs ++ c ∷ []) ≡ Ok tt → c.0 ≡ false
-last_passes [] (true, refusal) e = cc
-last_passes [] (false, refusal) e = refl
-last_passes ((true, refusal) ∷ cs) c e = cc
-last_passes ((false, refusal) ∷ cs) c e = last_passes cs c e
+-- a check that stands among others which pass
+pub passes_at : (before : List Check) (check : Check) (after : List Check) → first_of (before ++ check ∷ after) ≡ Ok tt → check.0 ≡ false
+passes_at [] (true, refusal) after e = cc
+passes_at [] (false, refusal) after e = refl
+passes_at ((true, refusal) ∷ before) check after e = cc
+passes_at ((false, refusal) ∷ before) check after e = passes_at before check after e
 
+-- a call that is not refused has passed its checks
 pub record Passed (checks : Result (Unit {0}) Refusal) (drawn : Option Parted × (List ℕ × List ℕ)) (p : Parted) : Type 0 where
   pub all : checks ≡ Ok tt
   pub is : drawn.0 ≡ Some p
@@ -248,9 +249,9 @@ passed checks first second draw p e = let u = accepted checks (first, second) (o
 
 none_empty : (stakes : List ℕ) (b : ℕ) (lent : Lent) → first_of (checks stakes b lent) ≡ Ok tt → (empty_bin (capacity (sum stakes) b) (sum stakes) b).0 ≡ false
 none_empty stakes b (seats, (bins, validators, columns)) e =
-    last_passes
+    passes_at
     (list_length (length stakes) ∷ size b ∷ short_buffer (length seats) b ∷ (short_pieces (bins, validators, columns) (most_pieces (length stakes) b) ++ sum_checks stakes))
-    (empty_bin (capacity (sum stakes) b) (sum stakes) b) e
+    (empty_bin (capacity (sum stakes) b) (sum stakes) b) [] e
 
 -- b bins of the capacity have room for S
 pub capacity_fits : (S b : ℕ) → 0 < b → S ≤ b * capacity S b

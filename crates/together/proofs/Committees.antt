@@ -1,7 +1,7 @@
 -- Every accepted call of FA1 over bins gives a fair committee.
 use Prim.Native.Nat.{ℕ, zero, suc, ◌+◌, ◌-◌, ◌*◌, ◌≤◌, ◌<◌}
 use mathlib.Core.Path.{◌≡◌, refl, sym, ap, ◌∙◌}
-use mathlib.Core.Bool.{true, false, cond}
+use mathlib.Core.Bool.{false, cond}
 use mathlib.Core.List.{List, [], ◌∷◌, ◌++◌}
 use native.Mathlib.Omega.{arith}
 use lib.Dec.{eqb}
@@ -15,14 +15,14 @@ use Rattle.laws.specs.Counts.{count}
 use Rattle.laws.proofs.Counts.{count_none}
 use Rattle.laws.proofs.Lists.{sum_append}
 use Rattle.laws.proofs.Std.{total_is_sum, sum_of_is_sum_by}
-use Rattle.refusals.specs.Refusal.{Check, first_of, list_length, size_of_some, is_over_or_zero, short_buffer, sum_past, total_zero, empty_bin}
+use Rattle.refusals.specs.Refusal.{first_of, list_length, size_of_some, is_over_or_zero, short_buffer, sum_past, total_zero, empty_bin}
 use Rattle.fill.specs.Piece.{pieces_in}
 use Rattle.fill.proofs.ChooseLemmas.{columns_hold}
 use Rattle.fixed_seats.specs.Fixed.{fixed, fixed_of, kept_of, further, repeated}
 use Rattle.fixed_seats.proofs.SeatLemmas.{sum-cons}
 use Rattle.partition.specs.Partition.{capacity, Parted, parted, seat_ids, Given, short_pieces}
 use Rattle.partition.specs.Pieces.{sum_of_pieces, Filled}
-use Rattle.partition.proofs.PieceLaws.{over, over_filled, over_none, over_two, over_seats, capacity_fits, last_some, parted_some, passed}
+use Rattle.partition.proofs.PieceLaws.{over, over_filled, over_none, over_two, over_seats, capacity_fits, last_some, parted_some, passes_at, passed}
 use Rattle.fait_accompli.specs.declared.quorum.Fallback.TheVariants.{Bins}
 use Rattle.fait_accompli.specs.Seats.{committee, seats_of}
 use Rattle.fait_accompli.specs.Calls.{quorum_checks, quorum, told}
@@ -134,13 +134,6 @@ module _ (k : ℕ) (list : List ℕ) (seat : 0 < k) (some : 0 < total list) (p :
           (over_filled weights cap b second o fits last)
 
 -- ---- every accepted call
-
--- a check that stands among others which pass
-passes_at : (before : List Check) (check : Check) (after : List Check) → first_of (before ++ check ∷ after) ≡ Ok tt → check.0 ≡ false
-passes_at [] (true, refusal) after e = cc
-passes_at [] (false, refusal) after e = refl
-passes_at ((true, refusal) ∷ before) check after e = cc
-passes_at ((false, refusal) ∷ before) check after e = passes_at before check after e
 
 above_zero : (n : ℕ) → eqb n 0 ≡ false → 0 < n
 above_zero zero e = cc
