@@ -5,7 +5,7 @@ ghost use Rattle.std.specs.Prelude.{◌≡◌, ◌≤◌, length, IfSome};
 
 use cases::{Cases, Reader, SEATS, STAKES, WORDS, agrees};
 use decaying_acceptance::DecayingAcceptanceSampler;
-use std::alloc::Global;
+use std::alloc::{AllocError, Global};
 use std::io;
 // Not a method of f64: a NaN keeps its bits.
 use std::num::f64_from_bits_with_nan;
@@ -14,16 +14,15 @@ use words::ListWords;
 // A text of so many bytes is too long. A test of the stored texts reads it in each program.
 const ROOM: usize = 262144;
 
-// Numbers as counts; `None` where one exceeds a u32. By a loop: `try_collect` takes no `Option`s, and no error that is not made of an
-// `AllocError`.
+// Numbers as counts; `None` where one exceeds a u32, or where there is no memory: `try_collect` takes one error for both.
 fn counts_of(numbers: &[u64], alloc: Global) -> Option<Vec<u32>>
     ensures { IfSome result (λ counts. counts.items ≡ numbers.now) }
 {
-    let mut counts = Vec::new(alloc);
-    for number in numbers {
-        counts.push(u32::try_from(*number).ok()?).ok()?;
-    }
-    Some(counts)
+    numbers
+        .iter()
+        .map(|number| u32::try_from(*number).map_err(|_| AllocError))
+        .try_collect(alloc)
+        .ok()
 }
 
 // One validator. The numbers are max_samples by its bits, the tries allowed and the cursor; the case expects the id, the tries and the
