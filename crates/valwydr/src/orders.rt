@@ -2,7 +2,7 @@ ghost use Rattle.std.specs.Prelude.{◌≡◌, drop};
 ghost use Rattle.tree.specs.Sizes.{sizes};
 ghost use Rattle.weighted_shuffle.specs.Entry.{shuffle};
 ghost use Rattle.turbine.specs.Calls.{turbine_tree};
-ghost use Rattle.valwydr.specs.Told.{sizes_told, order_values, shuffle_told, view_values, view_told};
+ghost use Rattle.valwydr.specs.Told.{told, sizes_told, order_values, view_values};
 
 use crate::tell::tell;
 use tree::{Node, get_num_nodes_and_tree_size};
@@ -40,8 +40,8 @@ pub extern "C" fn valwydr_weighted_shuffle(
     nodes: &mut [Node],
     answer: &mut [u64; 1],
 ) -> u64
-    ensures { (result, answer.new, order.new, nodes.new)
-        ≡ shuffle_told answer.old (shuffle weights.now order.old nodes.old (drop cursor list.now)) }
+    ensures { let call = shuffle weights.now order.old nodes.old (drop cursor list.now) in
+        ((result, answer.new) ≡ told order_values answer.old call.0) × (order.new ≡ call.1) × (nodes.new ≡ call.2) }
 {
     let call = shuffle(weights, ListWords::new(list, cursor), order, nodes);
     tell(call.map(order_values), answer)
@@ -75,8 +75,9 @@ pub extern "C" fn valwydr_turbine_tree_new(
     children: &mut [u64],
     answer: &mut [u64; 4],
 ) -> u64
-    ensures { (result, answer.new, order.new, nodes.new, children.new)
-        ≡ view_told answer.old (turbine_tree stakes.now fanout own_id (order.old, nodes.old, children.old) (drop cursor list.now)) }
+    ensures { let call = turbine_tree stakes.now fanout own_id (order.old, nodes.old, children.old) (drop cursor list.now) in
+        ((result, answer.new) ≡ told view_values answer.old call.0)
+        × (order.new ≡ call.1) × (nodes.new ≡ call.2) × (children.new ≡ call.3) }
 {
     let own = ValidatorIndex::new(own_id);
     let words = ListWords::new(list, cursor);
