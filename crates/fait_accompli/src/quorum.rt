@@ -25,7 +25,7 @@ pub struct Committee {
 
 /// Where the seats that are not fixed come from, with the size of the committee: bins, one seat from each, or plain draws. How many of the
 /// seats they are is not said here, since it follows from the list.
-// Both variants carry the size, since by the same rule the record names a fallback with the numbers that belong to it.
+// Both variants carry the size: the record names a fallback with the numbers that belong to it, by a rule of the project.
 #[derive(Clone, Copy, Debug, PartialEq, Eq)]
 pub enum Fallback {
     Bins(usize),
