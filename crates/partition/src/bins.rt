@@ -21,7 +21,7 @@ fn count_up(order: &mut [u64])
     }
 }
 
-// The ids from 0 on, shuffled. Called, and not written out.
+// The ids from 0 on, shuffled.
 #[inline(never)]
 fn shuffle_ids<W: WordSource>(words: &mut W, order: &mut [u64]) -> Option<()>
     ensures shuffled { (result, order.new, W.words words.new) ≡ shuffle (ids_from 0 (length order.old)) (W.words words.old) }
