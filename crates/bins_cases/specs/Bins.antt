@@ -1,5 +1,5 @@
 -- The lists of a case of a call over bins: seats, and the bins, validators and stakes of pieces.
-use Rattle.std.specs.Prelude.{ℕ, ◌≡◌, Bool, Option, Some, List, length, min, slice_index}
+use Rattle.std.specs.Prelude.{ℕ, ◌≡◌, ◌<◌, ◌-◌, Bool, Option, Some, List, length, min, slice_index}
 use Rattle.words.specs.Draw.{and_then}
 use Rattle.cases.specs.Numbers.{list_if}
 use Rattle.cases.specs.Lent.{IsHeld}
@@ -17,6 +17,17 @@ pub record AreLent (lent : Lists) (places : List ℕ) : Type 0 where
   pub bins : length lent.bins.items ≡ min (slice_index places 1) 5300
   pub validators : length lent.validators.items ≡ min (slice_index places 2) 5300
   pub stakes : length lent.stakes.items ≡ min (slice_index places 3) 5300
+
+-- the number at place i is 2^64 − 1 − i
+abbrev pub CountsDown : List ℕ → Type 0
+CountsDown buffer = (i : ℕ) → i < length buffer → slice_index buffer i ≡ 18446744073709551615 - i
+
+-- so it is in each
+pub record AllCountDown (lent : Lists) : Type 0 where
+  pub seats : CountsDown lent.seats.items
+  pub bins : CountsDown lent.bins.items
+  pub validators : CountsDown lent.validators.items
+  pub stakes : CountsDown lent.stakes.items
 
 -- these numbers stand at the front of each, and past them what it held before
 pub record AreHeld (lent before fronts : Lists) : Type 0 where

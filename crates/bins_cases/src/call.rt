@@ -1,7 +1,7 @@
 ghost use Rattle.std.specs.Prelude.{◌≤◌, length};
 
 use crate::lists::Lists;
-use cases::{Reader, STAKES, WORDS};
+use cases::{Reader, STAKES, WORDS, agrees};
 use fill::Columns;
 use refusals::Refusal;
 use std::alloc::Global;
@@ -29,6 +29,7 @@ pub trait BinsSampler<const N: usize> {
 
 /// Reads a case of a committee and runs it on the sampler of its size: whether the call answers as stated. The numbers are the size, both
 /// cursors and how many places of each buffer are lent; the case expects the answer's numbers, then the seats and the pieces.
+// That N is small is asked, as no type says it.
 pub fn quorum_agrees<const N: usize, S: BinsSampler<N>, F: FnOnce(usize) -> S>(
     new: F,
     text: &mut Reader,
@@ -59,7 +60,6 @@ pub fn quorum_agrees<const N: usize, S: BinsSampler<N>, F: FnOnce(usize) -> S>(
         &mut columns,
     );
     let pieces = answer.map_or(0, |answer| answer.pieces);
-    let told = answer.map(|answer| answer.numbers);
-    let same = told.map_err(|refusal| refusal.number()) == expected;
+    let same = agrees(answer.map(|answer| answer.numbers), expected);
     Some(same && pieces == wanted.stakes.len() && lent.hold(&before, &wanted))
 }

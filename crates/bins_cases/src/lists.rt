@@ -1,5 +1,5 @@
 ghost use Rattle.std.specs.Prelude.{◌≡◌, ◌≤◌, ◌↔◌, length, IfSome, IsTrue};
-ghost use Rattle.bins_cases.specs.Bins.{four_if, AreHeld, AreLent};
+ghost use Rattle.bins_cases.specs.Bins.{four_if, AllCountDown, AreHeld, AreLent};
 
 use cases::{Reader, SEATS, holds, lent};
 use std::alloc::Global;
@@ -8,6 +8,7 @@ use std::alloc::Global;
 const PIECES: u64 = 5300;
 
 // What a call over bins is lent, or is to leave at the front of it: seats, and the bins, validators and stakes of the pieces.
+// Four lists side by side, as C lends them to the calls.
 #[derive(Clone, Debug, Drop)]
 pub(crate) struct Lists {
     pub(crate) seats: Vec<u64>,
@@ -17,15 +18,17 @@ pub(crate) struct Lists {
 }
 
 impl Lists {
-    // Buffers of so many places.
+    // Buffers of so many places, whose numbers all differ.
     pub(crate) fn lent(places: [u64; 4], alloc: Global) -> Option<Self>
-        ensures { IfSome result (λ lists. AreLent lists places) }
+        ensures places { IfSome result (λ lists. AreLent lists places) }
+        ensures values { IfSome result (λ lists. AllCountDown lists) }
     {
+        let [seats, bins, validators, stakes] = places;
         Some(Lists {
-            seats: lent(places[0], SEATS, alloc)?,
-            bins: lent(places[1], PIECES, alloc)?,
-            validators: lent(places[2], PIECES, alloc)?,
-            stakes: lent(places[3], PIECES, alloc)?,
+            seats: lent(seats, SEATS, alloc)?,
+            bins: lent(bins, PIECES, alloc)?,
+            validators: lent(validators, PIECES, alloc)?,
+            stakes: lent(stakes, PIECES, alloc)?,
         })
     }
 

@@ -3,9 +3,9 @@
 
 ghost use Rattle.std.specs.Prelude.{◌≡◌, ◌≤◌, length, IfSome};
 
-use cases::{Cases, Reader, SEATS, STAKES, WORDS};
+use cases::{Cases, Reader, SEATS, STAKES, WORDS, agrees};
 use decaying_acceptance::DecayingAcceptanceSampler;
-use std::alloc::Global;
+use std::alloc::{AllocError, Global};
 use std::io;
 // Not a method of f64: a NaN keeps its bits.
 use std::num::f64_from_bits_with_nan;
@@ -14,15 +14,15 @@ use words::ListWords;
 // A text of so many bytes is too long. A test of the stored texts reads it in each program.
 const ROOM: usize = 262144;
 
-// Numbers as counts; `None` where one exceeds a u32.
+// Numbers as counts; `None` where one exceeds a u32, or where there is no memory: `try_collect` takes one error for both.
 fn counts_of(numbers: &[u64], alloc: Global) -> Option<Vec<u32>>
     ensures { IfSome result (λ counts. counts.items ≡ numbers.now) }
 {
-    let mut counts = Vec::new(alloc);
-    for number in numbers {
-        counts.push(u32::try_from(*number).ok()?).ok()?;
-    }
-    Some(counts)
+    numbers
+        .iter()
+        .map(|number| u32::try_from(*number).map_err(|_| AllocError))
+        .try_collect(alloc)
+        .ok()
 }
 
 // One validator. The numbers are max_samples by its bits, the tries allowed and the cursor; the case expects the id, the tries and the
@@ -45,7 +45,7 @@ fn one_agrees(text: &mut Reader, alloc: Global) -> Option<bool>
     );
     let answer = sampler.sample_one(&stakes, &mut counts, words);
     let told = answer.map(|s| [s.id.inner(), s.tries as u64, s.words_read as u64]);
-    let same = told.map_err(|refusal| refusal.number()) == expected;
+    let same = agrees(told, expected);
     Some(same && cases::holds(&counts, &before, &counted))
 }
 
@@ -69,7 +69,7 @@ fn quorum_agrees(text: &mut Reader, alloc: Global) -> Option<bool>
     let sampler = DecayingAcceptanceSampler::new(max_samples, allowed as usize, k as usize);
     let answer = sampler.sample_quorum(&stakes, &mut counts, words, &mut seats);
     let told = answer.map(|quorum| [quorum.tries as u64, quorum.words_read as u64]);
-    let same = told.map_err(|refusal| refusal.number()) == expected;
+    let same = agrees(told, expected);
     let same_seats = cases::holds(&seats, &lent, &seated);
     Some(same && same_seats && cases::holds(&counts, &before, &counted))
 }
@@ -79,16 +79,19 @@ fn reset_agrees(text: &mut Reader, alloc: Global) -> Option<bool>
     ensures { length text.new ≤ length text.old }
 {
     let before = text.list(STAKES, alloc)?;
-    let refusal = text.number()?;
-    let counted = text.list_if(refusal == 0, STAKES, alloc)?;
+    let expected = text.expected::<0>()?;
+    let counted = text.list_if(expected.is_ok(), STAKES, alloc)?;
     let mut counts = counts_of(&before, alloc)?;
     DecayingAcceptanceSampler::new(1.0, 1, 1).reset(&mut counts);
-    Some(refusal == 0 && counted.len() == counts.len() && cases::holds(&counts, &before, &counted))
+    let same = agrees(Ok([]), expected) && counted.len() == counts.len();
+    Some(same && cases::holds(&counts, &before, &counted))
 }
 
 struct DecayingCases;
 
 impl Cases for DecayingCases {
+    const NAMES: &'static [&'static str] = &["sample_one", "sample_quorum", "reset"];
+
     fn replay(operation: u64, text: &mut Reader, alloc: Global) -> Option<bool> {
         // A stored text names an operation by its number.
         match operation {
@@ -101,6 +104,5 @@ impl Cases for DecayingCases {
 }
 
 fn main(rt: HostRuntime) -> io::Result<()> {
-    let names = ["sample_one", "sample_quorum", "reset"];
-    cases::replay::<DecayingCases>(&rt, ROOM, &names)
+    cases::replay::<DecayingCases>(&rt, ROOM)
 }

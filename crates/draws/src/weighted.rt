@@ -27,6 +27,8 @@ pub fn running_sums(weights: &[u64], sums: &mut [u64]) -> Option<u64>
     ensures sums { OnSome result (sums.new ≡ written (running_sums weights.now) sums.old) }
 {
     let mut sum: u64 = 0;
+    // Written by index: tried over `sums.iter_mut().zip(weights)`, and the proof did not close, as no fact of the sums written so far could
+    // be kept.
     for (i, weight) in weights.iter().enumerate() {
         sum = sum.checked_add(*weight)?;
         sums[i] = sum;
@@ -94,6 +96,7 @@ impl<'a> Weights<'a> {
 
     // The sum of the weights before a place.
     #[inline(always)]
+    #[tactic(auto, using(crate::proofs::SumsLemmas::sum_before, crate::proofs::SumsLemmas::place_before))]
     fn sum_before(&self, at: usize) -> u64
         requires { at < length self.now }
         ensures { result ≡ sum (take at self.now) }

@@ -7,21 +7,22 @@ use Rattle.draws.specs.declared.weighted.Place.{Place}
 use Rattle.stake_weighted.specs.Seats.{iid}
 use Rattle.stake_weighted.proofs.AdmittedLemmas.{quorum_reads_only}
 use Rattle.fixed_seats.specs.Fixed.{kept_of, further}
-use Rattle.partition.specs.Partition.{Parted, Held}
+use Rattle.fill.specs.Columns.{Held}
+use Rattle.partition.specs.Partition.{Parted}
 use Rattle.partition.specs.Laws.{ReadsOnly}
 use Rattle.partition.proofs.AdmittedLemmas.{partition_reads_only, have_places, have_stake}
 use Rattle.fait_accompli.specs.declared.quorum.Fallback.{Fallback}
 use Rattle.fait_accompli.specs.declared.quorum.Fallback.TheVariants.{Bins, Draws}
-use Rattle.fait_accompli.specs.Seats.{size_of}
+use Rattle.fait_accompli.specs.Seats.{size_of, Roomy}
 use Rattle.fait_accompli.specs.Calls.{piece_checks, bin_checks}
-use Rattle.fait_accompli.specs.Laws.{FallbackReadsOnly, CommitteeReadsOnly, HasPieces, CommitteeAdmitted}
+use Rattle.fait_accompli.specs.Laws.{FallbackReadsOnly, CommitteeReadsOnly, CommitteeAdmitted}
 
 pub fallback_reads_only : FallbackReadsOnly
 fallback_reads_only (Bins k) weights b first second = partition_reads_only weights b first second
 fallback_reads_only (Draws k) weights b first second = plain (iid b weights first) (quorum_reads_only b weights first)
   where
     plain : (drawn : Option (List Place) × List ℕ) → length drawn.1 ≤ length first →
-        ReadsOnly first second (after {R = Option Parted × List ℕ × List ℕ} drawn (λ left. (None, left, second)) (λ places left. (Some (record { drawn = places; pieces = [] }), left, second)))
+        ReadsOnly first second (after {R = Option Parted × (List ℕ × List ℕ)} drawn (λ left. (None, (left, second))) (λ places left. (Some (record { drawn = places; pieces = [] }), (left, second))))
     plain (None, left) few = record { of_first = few; of_second = omega arith }
     plain (Some places, left) few = record { of_first = few; of_second = omega arith }
 
@@ -29,7 +30,7 @@ pub committee_reads_only : CommitteeReadsOnly
 committee_reads_only f list first second = fallback_reads_only f (kept_of (size_of f) list) (further (size_of f) list) first second
 
 -- a place for each piece, where no check of the columns applies, whatever checks follow
-have_pieces : (f : Fallback) (n : ℕ) (held : Held) (checks : List Check) → first_of (piece_checks f n held ++ checks) ≡ Ok tt → HasPieces f n held
+have_pieces : (f : Fallback) (n : ℕ) (held : Held) (checks : List Check) → first_of (piece_checks f n held ++ checks) ≡ Ok tt → Roomy f held n (size_of f)
 have_pieces (Bins k) n held checks e = have_places held (n + k) checks e
 have_pieces (Draws k) n held checks e = tt
 

@@ -4,7 +4,9 @@ use Rattle.refusals.specs.declared.refusal.Refusal.{Refusal}
 use Rattle.refusals.specs.Refusal.{Check, first_of, list_length, size_of_some, short_buffer, sum_checks, empty_bin}
 use Rattle.laws.specs.Buffers.{written}
 use Rattle.words.specs.Draw.{words_read}
-use Rattle.partition.specs.Partition.{capacity, short_pieces, seat_ids, Given, turned, or_no_word, Held, columns_of}
+use Rattle.draws.specs.Call.{after_checks, or_no_word}
+use Rattle.fill.specs.Columns.{Held, columns_of}
+use Rattle.partition.specs.Partition.{capacity, short_pieces, seat_ids, Given}
 use Rattle.partition.specs.Calls.{Lent}
 use Rattle.fixed_seats.specs.Fixed.{kept_of, further}
 use Rattle.fait_accompli.specs.declared.quorum.Fallback.{Fallback}
@@ -34,12 +36,13 @@ quorum_checks f list lent = size_checks f list lent ++ (sum_checks list ++ bin_c
 
 -- then the committee, and 12
 abbrev pub quorum : Fallback → List ℕ → Lent → List ℕ → List ℕ → Given
-quorum f list lent first second = turned (first_of (quorum_checks f list lent)) first second (or_no_word (committee f list first second))
+quorum f list lent first second =
+    after_checks (first_of (quorum_checks f list lent)) (first, second) (or_no_word (committee f list first second))
 
 -- the answer, with k' and the words read of each source, and what all that was lent then holds
 abbrev pub told : Fallback → List ℕ → Lent → List ℕ → List ℕ → Given → Result Committee Refusal × Lent
-told f list lent first second (Err refusal, left, rest) = (Err refusal, lent)
-told f list (seats, held) first second (Ok p, left, rest) = (
+told f list lent first second (Err refusal, (left, rest)) = (Err refusal, lent)
+told f list (seats, held) first second (Ok p, (left, rest)) = (
   Ok (record {
     further = further (size_of f) list;
     pieces = length p.pieces;
@@ -55,7 +58,8 @@ sample_quorum sampler list lent first second =
 
 -- b seats over any weights: 11 over bins, else what the fallback gives
 abbrev pub others : Fallback → List ℕ → ℕ → List ℕ → List ℕ → Given
-others f weights b first second = turned (first_of (bin_checks f weights b)) first second (or_no_word (fallback f weights b first second))
+others f weights b first second =
+    after_checks (first_of (bin_checks f weights b)) (first, second) (or_no_word (fallback f weights b first second))
 
 -- the same over what a list keeps
 abbrev pub committee_over : Fallback → List ℕ → List ℕ → List ℕ → Given
@@ -67,5 +71,5 @@ with_seats seats (Err refusal) = Err refusal
 with_seats seats (Ok n) = Ok (n, seats)
 
 abbrev pub placed_or : Held → Given → Result (ℕ × List ℕ) Refusal × Held × List ℕ × List ℕ
-placed_or held (Err refusal, left, rest) = (Err refusal, held, left, rest)
-placed_or held (Ok p, left, rest) = (Ok (length p.pieces, seat_ids p), columns_of p.pieces held, left, rest)
+placed_or held (Err refusal, (left, rest)) = (Err refusal, held, left, rest)
+placed_or held (Ok p, (left, rest)) = (Ok (length p.pieces, seat_ids p), columns_of p.pieces held, left, rest)

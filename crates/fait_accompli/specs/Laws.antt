@@ -1,12 +1,10 @@
 -- What is promised of every accepted call, and of the words that it leaves.
-use Rattle.std.specs.Prelude.{ℕ, ◌+◌, ◌≤◌, ◌<◌, ◌≡◌, Ok, List, length, sum}
+use Rattle.std.specs.Prelude.{ℕ, ◌≤◌, ◌<◌, ◌≡◌, Ok, List, length, sum}
 use Rattle.refusals.specs.Refusal.{first_of}
-use Rattle.partition.specs.Partition.{Held}
 use Rattle.partition.specs.Calls.{Lent}
-use Rattle.partition.specs.Laws.{ReadsOnly, HasPlaces}
+use Rattle.partition.specs.Laws.{ReadsOnly}
 use Rattle.fait_accompli.specs.declared.quorum.Fallback.{Fallback}
-use Rattle.fait_accompli.specs.declared.quorum.Fallback.TheVariants.{Bins, Draws}
-use Rattle.fait_accompli.specs.Seats.{size_of, fallback, committee}
+use Rattle.fait_accompli.specs.Seats.{size_of, fallback, committee, Roomy}
 use Rattle.fait_accompli.specs.Calls.{quorum_checks}
 
 -- further seats over any weights leave no more words of either source than there were, so the words read are the differences
@@ -17,11 +15,6 @@ FallbackReadsOnly = (f : Fallback) (weights : List ℕ) (b : ℕ) (first second 
 abbrev pub CommitteeReadsOnly : Type 0
 CommitteeReadsOnly = (f : Fallback) (list first second : List ℕ) → ReadsOnly first second (committee f list first second)
 
--- over bins each column has places for the pieces of n stakes
-abbrev pub HasPieces : Fallback → ℕ → Held → Type 0
-HasPieces (Bins k) n held = HasPlaces held (n + k)
-HasPieces (Draws k) n held = Unit {0}
-
 -- the sizes of a call that its checks do not turn down, and the sum of its stakes
 pub record Admitted (f : Fallback) (stakes : List ℕ) (lent : Lent) : Type 0 where
   pub some : 1 ≤ length stakes
@@ -29,7 +22,7 @@ pub record Admitted (f : Fallback) (stakes : List ℕ) (lent : Lent) : Type 0 wh
   pub seat : 1 ≤ size_of f
   pub size : size_of f ≤ 1024
   pub room : size_of f ≤ length lent.0
-  pub pieces : HasPieces f (length stakes) lent.1
+  pub pieces : Roomy f lent.1 (length stakes) (size_of f)
   pub some_stake : 0 < sum stakes
 
 abbrev pub CommitteeAdmitted : Type 0

@@ -1,6 +1,5 @@
 ghost use Rattle.std.specs.Prelude.{◌≡◌, ◌<◌, length, sum};
-ghost use Rattle.fill.specs.Columns.{SameLoans};
-ghost use Rattle.partition.specs.Partition.{held_of};
+ghost use Rattle.fill.specs.Columns.{held_of, SameLoans};
 ghost use Rattle.fait_accompli.specs.Seats.{Roomy};
 ghost use Rattle.fait_accompli.specs.Calls.{others, with_seats, placed_or};
 
@@ -31,7 +30,7 @@ pub fn draw_further<A: WordSource, B: WordSource>(
 ) -> Result<usize, Refusal>
     requires some { 0 < length seats.old → 0 < kept.total }
     requires space { length space.old ≡ length kept.stakes.now }
-    requires room { Roomy fallback columns.old (length kept.stakes.now) (length seats.old) }
+    requires room { Roomy fallback (held_of columns.old) (length kept.stakes.now) (length seats.old) }
     ensures drawn { (with_seats seats.new result, held_of columns.new, A.words words.new.first, B.words words.new.second)
         ≡ placed_or (held_of columns.old)
         (others fallback kept.entry.stakes.now (length seats.old) (A.words words.old.first) (B.words words.old.second)) }

@@ -1,7 +1,6 @@
 ghost use Rattle.std.specs.Prelude.{◌≡◌, ◌+◌, ◌≤◌, ◌<◌, length, sum};
 ghost use Rattle.refusals.specs.Refusal.{first_of};
-ghost use Rattle.fill.specs.Columns.{SameLoans};
-ghost use Rattle.partition.specs.Partition.{held_of};
+ghost use Rattle.fill.specs.Columns.{held_of, SameLoans};
 ghost use Rattle.fait_accompli.specs.declared.quorum.Fallback.TheVariants.{Bins, Draws};
 ghost use Rattle.fait_accompli.specs.Seats.{size_of, Roomy};
 ghost use Rattle.fait_accompli.specs.Calls.{piece_checks, committee_over, told, sample_quorum};
@@ -26,6 +25,7 @@ pub struct Committee {
 
 /// Where the seats that are not fixed come from, with the size of the committee: bins, one seat from each, or plain draws. How many of the
 /// seats they are is not said here, since it follows from the list.
+// Both variants carry the size: the record names a fallback with the numbers that belong to it, by a rule of the project.
 #[derive(Clone, Copy, Debug, PartialEq, Eq)]
 pub enum Fallback {
     Bins(usize),
@@ -59,7 +59,7 @@ impl Fallback {
 /// A sampler that gives each validator the whole number of seats in its share, and draws the others.
 #[derive(Clone, Copy, Debug, PartialEq, Eq)]
 pub struct FaitAccompli1Sampler {
-    // An enum and no type parameter, so that one type serves both constructors of the original, and the C functions of both.
+    // An enum and no type parameter, which it is in the original: a sampler's record names its fallback, by a rule of the project.
     fallback: Fallback,
 }
 
@@ -124,7 +124,8 @@ impl FaitAccompli1Sampler {
         )
     }
 
-    // A committee, drawn in scratch space for the shuffled order or the running sums, the stakes kept, and the seats.
+    // A committee, drawn in scratch space for the shuffled order or the running sums, the stakes kept, and the seats. That the total is the
+    // sum of the list is asked: a struct of list and total would hold the total a second time, beside that of `Division`.
     fn draw_in<A: WordSource, B: WordSource>(
         self,
         space: &mut [u64],
@@ -138,7 +139,7 @@ impl FaitAccompli1Sampler {
         requires sum { division.total ≡ sum stakes.now }
         requires size { division.seats ≡ size_of self.fallback }
         requires seats { size_of self.fallback ≤ length seats.old }
-        requires room { Roomy self.fallback columns.old (length stakes.now) (size_of self.fallback) }
+        requires room { Roomy self.fallback (held_of columns.old) (length stakes.now) (size_of self.fallback) }
         ensures told { (result, (seats.new, held_of columns.new))
             ≡ told self.fallback stakes.now (seats.old, held_of columns.old) (A.words words.old.first) (B.words words.old.second)
             (committee_over self.fallback stakes.now (A.words words.old.first) (B.words words.old.second)) }

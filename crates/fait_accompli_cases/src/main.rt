@@ -42,6 +42,8 @@ impl BinsSampler<3> for Sampler {
 struct FaitAccompliCases;
 
 impl Cases for FaitAccompliCases {
+    const NAMES: &'static [&'static str] = &["partition_fallback", "stake_weighted_fallback"];
+
     fn replay(operation: u64, text: &mut Reader, alloc: Global) -> Option<bool> {
         // A stored text names an operation by its number.
         match operation {
@@ -61,6 +63,5 @@ impl Cases for FaitAccompliCases {
 }
 
 fn main(rt: HostRuntime) -> io::Result<()> {
-    let names = ["partition_fallback", "stake_weighted_fallback"];
-    cases::replay::<FaitAccompliCases>(&rt, ROOM, &names)
+    cases::replay::<FaitAccompliCases>(&rt, ROOM)
 }

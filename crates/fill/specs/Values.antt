@@ -1,11 +1,12 @@
 -- A seat from each bin. A value is drawn for it before anything is known of the bin's shares, and chooses one of them later.
-use Rattle.std.specs.Prelude.{ℕ, zero, suc, ◌+◌, ◌-◌, ◌<◌, min, ◌&&◌, if◌then◌else◌, Option, Some, List, [], ◌∷◌, map, length, take, slice_index, set, ◌==◌, nat_lt}
+use Rattle.std.specs.Prelude.{ℕ, zero, suc, ◌+◌, ◌-◌, ◌<◌, min, ◌&&◌, if◌then◌else◌, Option, Some, List, [], ◌∷◌, map, length, slice_index, set, ◌==◌, nat_lt}
 use Rattle.words.specs.Draw.{and_then}
 use Rattle.draws.specs.declared.weighted.Place.{Place}
 use Rattle.draws.specs.Below.{below}
 use Rattle.draws.specs.Weighted.{place_of, weighted}
 use Rattle.fill.specs.declared.piece.Piece.{Piece}
 use Rattle.fill.specs.declared.columns.Columns.{Columns}
+use Rattle.fill.specs.Piece.{pieces_in}
 use Rattle.fill.specs.Fill.{Share, share_stakes}
 
 -- the validator whose share stands at a place of a bin
@@ -45,16 +46,9 @@ choices [] vs = []
 choices (bin ∷ bins) [] = []
 choices (bin ∷ bins) (v ∷ vs) = seat_of bin (place_of (share_stakes bin) v) ∷ choices bins vs
 
--- the pieces that stand in three columns
-abbrev pub rows : List ℕ → List ℕ → List ℕ → List Piece
-rows [] validators stakes = []
-rows (j ∷ bins) [] stakes = []
-rows (j ∷ bins) (i ∷ validators) [] = []
-rows (j ∷ bins) (i ∷ validators) (x ∷ stakes) = record { bin = j; validator = i; stake = x } ∷ rows bins validators stakes
-
 -- the first n of the pieces that stand in columns
 abbrev pub rows_of : ℕ → Columns → List Piece
-rows_of n columns = rows (take n columns.bins.now) (take n columns.validators.now) (take n columns.stakes.now)
+rows_of n columns = pieces_in n columns.bins.now columns.validators.now columns.stakes.now
 
 -- values with validators in their places, from the next bin on, by one piece after another: a piece of that bin gives its validator where
 -- the value is below its stake, and else leaves what the value exceeds it by

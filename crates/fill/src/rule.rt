@@ -1,13 +1,14 @@
-ghost use Rattle.std.specs.Prelude.{◌≡◌, ◌+◌, ◌*◌, ◌<◌, ◌≤◌, length, All};
-ghost use Rattle.fill.specs.Fill.{in_order, bin_total, fill, pieces};
-ghost use Rattle.fill.specs.Columns.{HaveRoom, SameLoans, Stored, Begin};
+ghost use Rattle.std.specs.Prelude.{◌≡◌, ◌+◌, ◌*◌, ◌<◌, ◌≤◌, length};
+ghost use Rattle.fill.specs.Fill.{bin_total, fill, pieces};
+ghost use Rattle.fill.specs.Columns.{held_of, columns_of, HaveRoom, SameLoans, Stored};
 
 use crate::columns::Columns;
+use crate::ordered::Ordered;
 use crate::piece::Piece;
 
 // Stores a piece at a place, and gives the place after it. A zero stake leaves no piece.
 fn put_some(columns: &mut Columns, at: usize, piece: Piece) -> usize
-    requires { HaveRoom columns.old (at + 1) }
+    requires { HaveRoom (held_of columns.old) (at + 1) }
     ensures stored { Stored columns.old columns.new at result piece }
     ensures same { SameLoans columns.old columns.new }
 {
@@ -18,23 +19,19 @@ fn put_some(columns: &mut Columns, at: usize, piece: Piece) -> usize
     at + 1
 }
 
-/// Fills bins to their capacity with weights in an order of their validators' ids, writes the pieces to the front of the columns, and gives
-/// their number, which is at most that of the order and the bins together.
-pub fn fill(
-    weights: &[u64],
-    order: &[u64],
-    capacity: u64,
-    bins: usize,
-    columns: &mut Columns,
-) -> usize
+/// Fills bins to their capacity with ordered weights, writes the pieces to the front of the columns, and gives their number, which is at
+/// most that of the weights and the bins together.
+// Facts of the bins are asked by themselves: `fill`, `fill_and_choose` and `draw_values` need one or two each of what `Bins` of `partition`
+// holds, and that stands above.
+pub fn fill(ordered: Ordered, capacity: u64, bins: usize, columns: &mut Columns) -> usize
     requires some { 0 < bins }
-    requires ids { All (λ i. i < length weights.now) order.now }
-    requires room { bin_total (in_order weights.now order.now) ≤ bins * capacity }
-    requires places { HaveRoom columns.old (length order.now + bins) }
-    ensures count { result ≡ length (pieces 0 (fill capacity bins (in_order weights.now order.now))) }
-    ensures begin { Begin columns.old columns.new (pieces 0 (fill capacity bins (in_order weights.now order.now))) }
+    requires room { bin_total ordered ≤ bins * capacity }
+    requires places { HaveRoom (held_of columns.old) (length ordered + bins) }
+    ensures count { result ≡ length (pieces 0 (fill capacity bins ordered.entry)) }
+    ensures begin { held_of columns.new ≡ columns_of (pieces 0 (fill capacity bins ordered.entry)) (held_of columns.old) }
     ensures same { SameLoans columns.old columns.new }
 {
+    let Ordered { weights, order } = ordered;
     let mut count = 0;
     let mut bin = 0;
     let mut room = capacity;

@@ -29,7 +29,7 @@ stored_next d {values} {held} {buffer} {i} l r s = record {
   holds = ap (λ (b : List _). set b i (get_or values i d)) s.holds ∙ store_next d values held i l (omega arith);
 }
 
--- one value is stored to every place
+-- one value is stored to every place; no proof cites it; docs/TRACE.md names it as a promise
 pub filled_next : {A : Type 0} (a : A) {held buffer : List A} {i : ℕ} → i < length buffer → Stored (replicate (length held) a) held buffer i →
     Stored (replicate (length held) a) held (set buffer i a) (i + 1)
 filled_next a {held} {buffer} {i} l s =

@@ -39,15 +39,15 @@ told_seat (Err refusal, left) = number_of refusal ∷ []
 
 -- a partition: 0, the seats, then the bins, the validators and the stakes of the pieces; or the refusal
 abbrev pub told_parted : Given → List ℕ
-told_parted (Ok p, left, rest) = 0 ∷ (seat_ids p ++ (bins_of p.pieces ++ (validators_of p.pieces ++ stakes_of p.pieces)))
-told_parted (Err refusal, left, rest) = number_of refusal ∷ []
+told_parted (Ok p, (left, rest)) = 0 ∷ (seat_ids p ++ (bins_of p.pieces ++ (validators_of p.pieces ++ stakes_of p.pieces)))
+told_parted (Err refusal, (left, rest)) = number_of refusal ∷ []
 
 -- a committee of a list: 0, how many seats are not fixed, then the same of all seats and the pieces; or the refusal
 abbrev pub told_committee : Fallback → List ℕ → Given → List ℕ
-told_committee f stakes (Ok p, left, rest) =
+told_committee f stakes (Ok p, (left, rest)) =
     0 ∷ further (size_of f) stakes
     ∷ (seats_of f stakes p ++ (bins_of p.pieces ++ (validators_of p.pieces ++ stakes_of p.pieces)))
-told_committee f stakes (Err refusal, left, rest) = number_of refusal ∷ []
+told_committee f stakes (Err refusal, (left, rest)) = number_of refusal ∷ []
 
 -- the sizes of a tree
 abbrev pub told_sizes : ℕ → List ℕ

@@ -12,10 +12,11 @@ use Rattle.draws.specs.Shuffle.{shuffle}
 use Rattle.draws.proofs.CallLemmas.{passed, some_sum}
 use Rattle.draws.proofs.DrawLemmas.{after_leaves, draws_read_only}
 use Rattle.fill.specs.declared.piece.Piece.{Piece}
+use Rattle.fill.specs.Columns.{Held, HaveRoom}
 use Rattle.fill.specs.Fill.{Share, share_stakes, in_order, fill, pieces}
 use Rattle.fill.specs.Values.{seat, seats}
-use Rattle.partition.specs.Partition.{capacity, most_pieces, short_pieces, Parted, over_bins, Held}
-use Rattle.partition.specs.Laws.{CapacityLeast, ReadsOnly, BinsReadOnly, PartitionReadsOnly, HasPlaces, PartitionAdmitted}
+use Rattle.partition.specs.Partition.{capacity, most_pieces, short_pieces, Parted, over_bins}
+use Rattle.partition.specs.Laws.{CapacityLeast, ReadsOnly, BinsReadOnly, PartitionReadsOnly, PartitionAdmitted}
 use Rattle.partition.proofs.PieceLaws.{capacity_fits}
 use native.Mathlib.Nat.{mul_comm}
 
@@ -41,7 +42,7 @@ bins_read_only weights cap b first second =
     both order.0 order.2 (seats bins second) (pieces 0 bins) ((draws_read_only first).of_shuffle ids) (seats_leave bins second)
   where
     both : (done : Option (Unit {0})) (left : List ℕ) (drawn : Option (List Place) × List ℕ) (ps : List Piece) → length left ≤ length first → length drawn.1 ≤ length second →
-        ReadsOnly first second (after {R = Option Parted × List ℕ × List ℕ} (done, left) (λ left. (None, left, second)) (λ done left. after drawn (λ rest. (None, left, rest)) (λ places rest. (Some (record { drawn = places; pieces = ps }), left, rest))))
+        ReadsOnly first second (after {R = Option Parted × (List ℕ × List ℕ)} (done, left) (λ left. (None, (left, second))) (λ done left. after drawn (λ rest. (None, (left, rest))) (λ places rest. (Some (record { drawn = places; pieces = ps }), (left, rest)))))
     both None left drawn ps few less = record { of_first = few; of_second = omega arith }
     both (Some done) left (None, rest) ps few less = record { of_first = few; of_second = less }
     both (Some done) left (Some places, rest) ps few less = record { of_first = few; of_second = less }
@@ -49,7 +50,7 @@ bins_read_only weights cap b first second =
 pub partition_reads_only : PartitionReadsOnly
 partition_reads_only weights b first second = go (b == 0)
   where
-    go : (none : Bool) → ReadsOnly first second (if none then (Some (record { drawn = []; pieces = [] }), first, second) else over_bins weights (capacity (sum weights) b) b first second)
+    go : (none : Bool) → ReadsOnly first second (if none then (Some (record { drawn = []; pieces = [] }), (first, second)) else over_bins weights (capacity (sum weights) b) b first second)
     go true = record { of_first = omega arith; of_second = omega arith }
     go false = bins_read_only weights (capacity (sum weights) b) b first second
 
@@ -58,7 +59,7 @@ pub have_stake : (columns : List Check) (stakes : List ℕ) (checks : List Check
 have_stake columns stakes checks e = some_sum stakes (passed (sum_checks stakes) checks (passed columns (sum_checks stakes ++ checks) e).1).0
 
 -- a place for each piece in each column, where no check of them applies, whatever checks follow
-pub have_places : (held : Held) (needed : ℕ) (checks : List Check) → first_of (short_pieces held needed ++ checks) ≡ Ok tt → HasPlaces held needed
+pub have_places : (held : Held) (needed : ℕ) (checks : List Check) → first_of (short_pieces held needed ++ checks) ≡ Ok tt → HaveRoom held needed
 have_places (bins, validators, stakes) needed checks e =
     let a = past (short_buffer (length bins) needed) (short_buffer (length validators) needed ∷ short_buffer (length stakes) needed ∷ checks) e in
     let b = past (short_buffer (length validators) needed) (short_buffer (length stakes) needed ∷ checks) a.others in

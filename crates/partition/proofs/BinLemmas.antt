@@ -1,23 +1,23 @@
 -- Bins over a shuffled list.
-use Rattle.std.proofs.Common.{◌≡◌, ℕ, zero, suc, ◌+◌, ◌*◌, ◌<◌, ◌≤◌, Option, Some, None, List, [], ◌∷◌, ◌++◌, length, get_or, take, set, refl, sym, ap, subst, ◌∙◌, arith, append_assoc, length-append, IsPermutation}
+use Rattle.std.proofs.Common.{◌≡◌, ℕ, zero, suc, ◌+◌, ◌*◌, ◌<◌, ◌≤◌, Option, Some, None, List, [], ◌∷◌, ◌++◌, length, take, set, refl, sym, ap, ◌∙◌, arith, IsPermutation}
 use Rattle.std.specs.Prelude.{sum, All}
-use Rattle.std.proofs.lemmas.List.{take_more_set, get_or_at}
+use Rattle.std.proofs.lemmas.List.{take_more_set}
 use Rattle.std.proofs.lemmas.List.Elements.{All-nil, All-cons}
-use Rattle.std.proofs.lemmas.List.Sums.{sum_by-cons}
-use Rattle.std.proofs.lemmas.List.Sorted.{All-permutation, IsPermutation-map, sum_by-IsPermutation}
+use Rattle.std.proofs.lemmas.List.Sorted.{All-permutation}
 use Rattle.laws.specs.Orders.{ids_from}
+use Rattle.laws.proofs.Std.{total_is_sum, permutation_is}
 use Rattle.draws.specs.declared.weighted.Place.{Place}
 use Rattle.draws.specs.Weighted.{ids}
 use Rattle.draws.specs.Shuffle.{shuffle}
 use Rattle.fill.specs.declared.piece.Piece.{Piece}
 use Rattle.fill.specs.declared.columns.Columns.{Columns}
-use Rattle.fill.specs.Columns.{Begin}
+use Rattle.fill.specs.Columns.{Held, held_of, columns_of}
 use Rattle.fill.specs.Fill.{Share, in_order, share_stakes, bin_total, fill, pieces}
 use Rattle.fill.specs.Values.{bin_sums, values_below, Low, choices}
-use Rattle.fill.proofs.FillLemmas.{bin_total-cons}
 use Rattle.fill.proofs.SeatLemmas.{seats_by_values, fill_totals}
 use Rattle.partition.specs.declared.checks.Bins.{Bins}
-use Rattle.partition.specs.Partition.{Parted, over_bins, Held, placed, Fillable}
+use Rattle.partition.specs.Partition.{Parted, over_bins, placed}
+use Rattle.partition.proofs.OrderLaws.{order_total}
 
 ids-more : (i n : ℕ) → ids_from i (suc n) ≡ ids_from i n ++ (i + n) ∷ []
 ids-more i zero = let same : i ≡ i + 0 = omega arith in ap (λ (k : ℕ). k ∷ []) same
@@ -36,36 +36,26 @@ ids-low : (i n m : ℕ) → i + n ≤ m → All (λ j. j < m) (ids_from i n)
 ids-low i zero m low = All-nil (λ j. j < m)
 ids-low i (suc n) m low = All-cons (λ j. j < m) i (ids_from (suc i) n) (omega arith) (ids-low (suc i) n m (omega arith))
 
-abbrev share_of : List ℕ → ℕ → Share
-share_of weights i = record { validator = i; stake = get_or weights i 0 }
-
-total-ids : (n : ℕ) (front weights : List ℕ) → length front ≡ n → bin_total (in_order (front ++ weights) (ids_from n (length weights))) ≡ sum weights
-total-ids n front [] at = refl
-total-ids n front (w ∷ weights) at =
-    let longer : length (front ++ w ∷ []) ≡ suc n = omega (arith, at, length-append front (w ∷ [])) in
-    let rest = subst (λ (all : List ℕ). bin_total (in_order all (ids_from (suc n) (length weights))) ≡ sum weights) (append_assoc front (w ∷ []) weights) (total-ids (suc n) (front ++ w ∷ []) weights longer) in
-    omega (arith, rest, get_or_at front w weights 0 n at, bin_total-cons (share_of (front ++ w ∷ weights) n) (in_order (front ++ w ∷ weights) (ids_from (suc n) (length weights))), sum_by-cons (λ x. x) w weights)
-
 -- the columns hold the pieces
-placed_pieces : (old new : Columns) (places : List Place) (ps : List Piece) (left rest : List ℕ) → Begin old new ps →
+placed_pieces : (old new : Columns) (places : List Place) (ps : List Piece) (left rest : List ℕ) → held_of new ≡ columns_of ps (held_of old) →
     ◌≡◌ {A = Option (ℕ × List ℕ) × Held × List ℕ × List ℕ}
-    (Some (length ps, ids places), (new.bins.now, new.validators.now, new.stakes.now), left, rest)
-    (placed (old.bins.now, old.validators.now, old.stakes.now) (Some (record { drawn = places; pieces = ps }), left, rest))
-placed_pieces old new places ps left rest begin = rw (begin.bins, begin.validators, begin.stakes) refl
+    (Some (length ps, ids places), held_of new, left, rest)
+    (placed (held_of old) (Some (record { drawn = places; pieces = ps }), (left, rest)))
+placed_pieces old new places ps left rest begin = ap (λ (held : Held). (Some (length ps, ids places), held, left, rest)) begin
 
-module _ (weights : List ℕ) (bins : Bins) (order : List ℕ) (fill_able : Fillable (sum weights) bins) (permuted : IsPermutation (ids_from 0 (length weights)) order) where
-  pub ids_low : All (λ i. i < length weights) order
-  ids_low = All-permutation (λ i. i < length weights) (ids_from 0 (length weights)) order permuted (ids-low 0 (length weights) (length weights) (omega arith))
+pub ids_low : (weights order : List ℕ) → IsPermutation (ids_from 0 (length weights)) order → All (λ i. i < length weights) order
+ids_low weights order permuted = All-permutation (λ i. i < length weights) (ids_from 0 (length weights)) order permuted (ids-low 0 (length weights) (length weights) (omega arith))
 
+module _ (weights : List ℕ) (bins : Bins) (order : List ℕ) (summed : bins.sum ≡ sum weights) (permuted : IsPermutation (ids_from 0 (length weights)) order) where
   pub same_total : bin_total (in_order weights order) ≡ bins.sum
   same_total =
-      sum_by-IsPermutation (λ x. x) (share_stakes (in_order weights (ids_from 0 (length weights)))) (share_stakes (in_order weights order))
-      (IsPermutation-map (λ (x : Share). x.stake) (in_order weights (ids_from 0 (length weights))) (in_order weights order) (IsPermutation-map (share_of weights) (ids_from 0 (length weights)) order permuted))
-      ∙ total-ids 0 [] weights refl
-      ∙ sym fill_able.is
+      sym (total_is_sum (share_stakes (in_order weights order)))
+      ∙ order_total weights order (permutation_is (ids_from 0 (length weights)) order permuted)
+      ∙ total_is_sum weights
+      ∙ sym summed
 
   pub enough_room : bin_total (in_order weights order) ≤ bins.number * bins.capacity
-  enough_room = omega (arith, same_total, fill_able.room)
+  enough_room = omega (arith, same_total, bins.room)
 
   pub values_fit : (vs : List ℕ) → Low (bin_sums bins.capacity bins.number bins.sum) vs → Low (bin_sums bins.capacity bins.number (bin_total (in_order weights order))) vs
   values_fit vs low = rw same_total low
@@ -76,21 +66,21 @@ module _ (weights : List ℕ) (bins : Bins) (order : List ℕ) (fill_able : Fill
 
     -- the seats of the bins, by the values
     all_drawn : (vs rest : List ℕ) → ◌≡◌ {A = Option (List ℕ) × List ℕ} (Some vs, rest) (values_below (bin_sums bins.capacity bins.number bins.sum) second) →
-        ◌≡◌ {A = Option Parted × List ℕ × List ℕ} (Some (record { drawn = choices filled vs; pieces = pieces 0 filled }), left, rest) (over_bins weights bins.capacity bins.number first second)
+        ◌≡◌ {A = Option Parted × (List ℕ × List ℕ)} (Some (record { drawn = choices filled vs; pieces = pieces 0 filled }), (left, rest)) (over_bins weights bins.capacity bins.number first second)
     all_drawn vs rest drawn = rw (← shuffled, seats_by_values filled second, fill_totals bins.capacity bins.number (in_order weights order), same_total, ← drawn) refl
 
     -- the second words run out
     pub none_drawn : (rest : List ℕ) → ◌≡◌ {A = Option (List ℕ) × List ℕ} (None, rest) (values_below (bin_sums bins.capacity bins.number bins.sum) second) →
-        ◌≡◌ {A = Option Parted × List ℕ × List ℕ} (None, left, rest) (over_bins weights bins.capacity bins.number first second)
+        ◌≡◌ {A = Option Parted × (List ℕ × List ℕ)} (None, (left, rest)) (over_bins weights bins.capacity bins.number first second)
     none_drawn rest drawn = rw (← shuffled, seats_by_values filled second, fill_totals bins.capacity bins.number (in_order weights order), same_total, ← drawn) refl
 
     -- all that a call gives
     pub all_placed : (count : ℕ) (vs rest seats : List ℕ) (old new : Columns) → ◌≡◌ {A = Option (List ℕ) × List ℕ} (Some vs, rest) (values_below (bin_sums bins.capacity bins.number bins.sum) second) →
-        count ≡ length (pieces 0 filled) → Begin old new (pieces 0 filled) → seats ≡ ids (choices filled vs) →
+        count ≡ length (pieces 0 filled) → held_of new ≡ columns_of (pieces 0 filled) (held_of old) → seats ≡ ids (choices filled vs) →
         ◌≡◌ {A = Option (ℕ × List ℕ) × Held × List ℕ × List ℕ}
-        (Some (count, seats), (new.bins.now, new.validators.now, new.stakes.now), left, rest)
-        (placed (old.bins.now, old.validators.now, old.stakes.now) (over_bins weights bins.capacity bins.number first second))
+        (Some (count, seats), held_of new, left, rest)
+        (placed (held_of old) (over_bins weights bins.capacity bins.number first second))
     all_placed count vs rest seats old new drawn count_is begin seats_are =
         rw (count_is, seats_are)
         (placed_pieces old new (choices filled vs) (pieces 0 filled) left rest begin
-        ∙ ap (placed (old.bins.now, old.validators.now, old.stakes.now)) (all_drawn vs rest drawn))
+        ∙ ap (placed (held_of old)) (all_drawn vs rest drawn))

@@ -8,7 +8,7 @@ use native.Mathlib.Omega.{arith}
 use lib.Dec.{eqb}
 use lib.ListN.{length, get_or, length-map, get_or-eq_default}
 use borrow.Author.Tests.{eq-eqb, ne_eqb, leb-false, le-leb}
-use Rattle.std.specs.Prelude.{Option, Some, None, Result, Ok, Err, sum}
+use Rattle.std.specs.Prelude.{Option, Some, None, Result, Ok, sum}
 use Rattle.std.proofs.lemmas.Grind.{div_ceil_times}
 use Rattle.laws.specs.Sums.{total, sum_of}
 use Rattle.laws.specs.Counts.{count_below, count}
@@ -20,8 +20,10 @@ use Rattle.refusals.specs.declared.refusal.Refusal.{Refusal}
 use Rattle.refusals.specs.Refusal.{Check, first_of, list_length, size, short_buffer, sum_checks, empty_bin}
 use Rattle.words.specs.Draw.{after, and_then}
 use Rattle.draws.specs.declared.weighted.Place.{Place}
+use Rattle.draws.specs.Call.{after_checks, or_no_word}
 use Rattle.draws.specs.Weighted.{weighted, weight_where, ids, Placed}
 use Rattle.draws.specs.Shuffle.{shuffle}
+use Rattle.draws.proofs.CallLemmas.{accepted, drawn}
 use Rattle.draws.proofs.DrawLemmas.{went, weighted_placed}
 use Rattle.draws.proofs.Fairness.{counting}
 use Rattle.draws.proofs.ShuffleLemmas.{shuffle_permutes}
@@ -30,7 +32,7 @@ use Rattle.fill.specs.Piece.{validators_of, stakes_of}
 use Rattle.fill.specs.Fill.{Share, in_order, share_stakes, bin_total, fill, numbered, pieces}
 use Rattle.fill.specs.Values.{holder, seat_of, seat, seats}
 use Rattle.fill.proofs.FillLaws.{numbered_sum, pieces_sum, Additive, measure, tally, fill_sums, fill_long, fill_adds, fill_single, fill_two, fill_positive, pieces_few, stakes_total}
-use Rattle.partition.specs.Partition.{capacity, most_pieces, short_pieces, Parted, seat_ids, over_bins, parted, turned, or_no_word}
+use Rattle.partition.specs.Partition.{capacity, most_pieces, short_pieces, Parted, seat_ids, over_bins, parted}
 use Rattle.partition.specs.Calls.{Lent, checks}
 use Rattle.partition.specs.Pieces.{in_bin, of, sum_of_pieces, chooses, Filled, PartitionsFilled}
 use Rattle.partition.proofs.OrderLaws.{order_total, order_weight, order_once, order_within}
@@ -143,7 +145,7 @@ over weights cap b first second p e =
     }
   where
     parts : (done : Option (Unit {0})) (left : List ℕ) (drawn : Option (List Place) × List ℕ) (ps : List Piece) →
-        (after {R = Option Parted × List ℕ × List ℕ} (done, left) (λ left. (None, left, second)) (λ done left. after drawn (λ rest. (None, left, rest)) (λ places rest. (Some (record { drawn = places; pieces = ps }), left, rest)))).0 ≡ Some p →
+        (after {R = Option Parted × (List ℕ × List ℕ)} (done, left) (λ left. (None, (left, second))) (λ done left. after drawn (λ rest. (None, (left, rest))) (λ places rest. (Some (record { drawn = places; pieces = ps }), (left, rest))))).0 ≡ Some p →
         (p.pieces ≡ ps) × (drawn.0 ≡ Some p.drawn)
     parts None left drawn ps e = cc
     parts (Some done) left (None, rest) ps e = cc
@@ -230,27 +232,26 @@ module _ (weights : List ℕ) (cap b : ℕ) (second : List ℕ) {p : Parted} (o 
 
 -- ---- every accepted partition
 
--- a call that is not refused has passed its checks, and among them 11
-last_passes : (cs : List Check) (c : Check) → first_of (cs ++ c ∷ []) ≡ Ok tt → c.0 ≡ false
-last_passes [] (true, refusal) e = cc
-last_passes [] (false, refusal) e = refl
-last_passes ((true, refusal) ∷ cs) c e = cc
-last_passes ((false, refusal) ∷ cs) c e = last_passes cs c e
+-- a check that stands among others which pass
+pub passes_at : (before : List Check) (check : Check) (after : List Check) → first_of (before ++ check ∷ after) ≡ Ok tt → check.0 ≡ false
+passes_at [] (true, refusal) after e = cc
+passes_at [] (false, refusal) after e = refl
+passes_at ((true, refusal) ∷ before) check after e = cc
+passes_at ((false, refusal) ∷ before) check after e = passes_at before check after e
 
-pub record Passed (checks : Result (Unit {0}) Refusal) (drawn : Option Parted × List ℕ × List ℕ) (p : Parted) : Type 0 where
+-- a call that is not refused has passed its checks
+pub record Passed (checks : Result (Unit {0}) Refusal) (drawn : Option Parted × (List ℕ × List ℕ)) (p : Parted) : Type 0 where
   pub all : checks ≡ Ok tt
   pub is : drawn.0 ≡ Some p
 
-pub passed : (checks : Result (Unit {0}) Refusal) (first second : List ℕ) (drawn : Option Parted × List ℕ × List ℕ) (p : Parted) → (turned checks first second (or_no_word drawn)).0 ≡ Ok p → Passed checks drawn p
-passed (Err refusal) first second drawn p e = cc
-passed (Ok tt) first second (None, left, rest) p e = cc
-passed (Ok tt) first second (Some q, left, rest) p e = let same : q ≡ p = cc in rw same (record { all = refl; is = refl })
+pub passed : (checks : Result (Unit {0}) Refusal) (first second : List ℕ) (draw : Option Parted × (List ℕ × List ℕ)) (p : Parted) → (after_checks checks (first, second) (or_no_word draw)).0 ≡ Ok p → Passed checks draw p
+passed checks first second draw p e = let u = accepted checks (first, second) (or_no_word draw) p e in record { all = u.passed; is = drawn draw p u.is }
 
 none_empty : (stakes : List ℕ) (b : ℕ) (lent : Lent) → first_of (checks stakes b lent) ≡ Ok tt → (empty_bin (capacity (sum stakes) b) (sum stakes) b).0 ≡ false
 none_empty stakes b (seats, (bins, validators, columns)) e =
-    last_passes
+    passes_at
     (list_length (length stakes) ∷ size b ∷ short_buffer (length seats) b ∷ (short_pieces (bins, validators, columns) (most_pieces (length stakes) b) ++ sum_checks stakes))
-    (empty_bin (capacity (sum stakes) b) (sum stakes) b) e
+    (empty_bin (capacity (sum stakes) b) (sum stakes) b) [] e
 
 -- b bins of the capacity have room for S
 pub capacity_fits : (S b : ℕ) → 0 < b → S ≤ b * capacity S b

@@ -2,13 +2,13 @@ ghost use Rattle.std.specs.Prelude.{◌≡◌, ◌+◌, IsPermutation, length, s
 ghost use Rattle.std.specs.Option.{option_map};
 ghost use Rattle.laws.specs.Orders.{ids_from};
 ghost use Rattle.draws.specs.Shuffle.{shuffle};
-ghost use Rattle.partition.specs.Partition.{held_of, over_bins, placed, Fillable};
-ghost use Rattle.fill.specs.Columns.{HaveRoom, SameLoans};
+ghost use Rattle.partition.specs.Partition.{over_bins, placed};
+ghost use Rattle.fill.specs.Columns.{held_of, HaveRoom, SameLoans};
 
 use crate::checks::Bins;
 use crate::sources::Sources;
 use draws::shuffle_list;
-use fill::{Columns, draw_values, fill_and_choose};
+use fill::{Columns, Ordered, draw_values, fill_and_choose};
 use words::WordSource;
 
 // The ids from 0 on.
@@ -21,7 +21,7 @@ fn count_up(order: &mut [u64])
     }
 }
 
-// The ids from 0 on, shuffled. Called, and not written out, as `draw_values` of `fill` is.
+// The ids from 0 on, shuffled.
 #[inline(never)]
 fn shuffle_ids<W: WordSource>(words: &mut W, order: &mut [u64]) -> Option<()>
     ensures shuffled { (result, order.new, W.words words.new) ≡ shuffle (ids_from 0 (length order.old)) (W.words words.old) }
@@ -34,7 +34,8 @@ fn shuffle_ids<W: WordSource>(words: &mut W, order: &mut [u64]) -> Option<()>
 /// One seat from each of the bins: the weights are shuffled by the first words, the seats are drawn by the second, and then the pieces
 /// are written. Gives their number; `None` where the words run out, which leaves the columns as they were.
 // Seats and columns in one struct would be no plainer: the columns are those lent, but the seats are scratch space and no lent ones, so
-// the entries would take the struct apart and build another for each call.
+// the entries would take the struct apart and build another for each call. That the sum is that of the list is asked: a struct of list and
+// sum would hold the sum a second time, beside that of `Bins`.
 #[tactic(auto, using(crate::proofs::BinLemmas::ids_low, crate::proofs::BinLemmas::enough_room))]
 pub fn draw_bins<A: WordSource, B: WordSource>(
     weights: &[u64],
@@ -44,10 +45,10 @@ pub fn draw_bins<A: WordSource, B: WordSource>(
     seats: &mut [u64],
     columns: &mut Columns,
 ) -> Option<usize>
-    requires fillable { Fillable (sum weights.now) bins }
+    requires sum { bins.sum ≡ sum weights.now }
     requires order { length order.old ≡ length weights.now }
     requires seats { length seats.old ≡ bins.number }
-    requires room { HaveRoom columns.old (length weights.now + bins.number) }
+    requires room { HaveRoom (held_of columns.old) (length weights.now + bins.number) }
     ensures drawn { (option_map (λ n. (n, seats.new)) result, held_of columns.new, A.words words.new.first, B.words words.new.second)
         ≡ placed (held_of columns.old)
         (over_bins weights.now bins.capacity bins.number (A.words words.old.first) (B.words words.old.second)) }
@@ -55,5 +56,6 @@ pub fn draw_bins<A: WordSource, B: WordSource>(
 {
     shuffle_ids(&mut words.first, order)?;
     draw_values(&mut words.second, bins.capacity, bins.sum, seats)?;
-    Some(fill_and_choose(weights, order, bins.capacity, columns, seats))
+    let ordered = Ordered::new(weights, order);
+    Some(fill_and_choose(ordered, bins.capacity, columns, seats))
 }

@@ -1,16 +1,22 @@
-ghost use Rattle.std.specs.Prelude.{◌≡◌, ◌≤◌, ◌<◌, [], ◌∷◌, Ok, IfOk};
+ghost use Rattle.std.specs.Prelude.{ℕ, ◌≡◌, ◌-◌, ◌*◌, ◌≤◌, ◌<◌, [], ◌∷◌, Ok};
+ghost use Rattle.std.specs.Result.{result_map_both};
 ghost use Rattle.refusals.specs.Refusal.{first_of, empty_bin, unless};
-ghost use Rattle.partition.specs.Partition.{held_of, short_pieces, most_pieces, capacity, Fillable};
+ghost use Rattle.fill.specs.Columns.{held_of};
+ghost use Rattle.partition.specs.Partition.{short_pieces, most_pieces, capacity};
 
 use fill::Columns;
 use refusals::{Refusal, check_room};
 
-/// Bins of one capacity for stakes of this sum.
+/// Bins of one capacity for stakes of this sum: they have room for it, and none would be empty.
 #[derive(Clone, Copy, Debug, PartialEq, Eq)]
 pub struct Bins {
     pub number: usize,
     pub capacity: u64,
     pub sum: u64,
+    pub ghost some: { 0 < number },
+    pub ghost holds: { 0 < capacity },
+    pub ghost room: { sum ≤ number * capacity },
+    pub ghost full: { (number - 1) * capacity < sum },
 }
 
 // How many pieces `n` stakes in so many bins make at most.
@@ -42,9 +48,8 @@ pub fn check_columns(columns: &Columns, needed: usize) -> Result<(), Refusal>
 /// `EmptyBin` where the bins before the last would hold the whole sum.
 pub fn check_bins(sum: u64, number: usize) -> Result<Bins, Refusal>
     requires { 0 < number }
-    ensures fillable { IfOk result (Fillable sum) }
-    ensures checked { result
-        ≡ unless (first_of (empty_bin (capacity sum number) sum number ∷ [])) (Ok (record { number = number; capacity = capacity sum number; sum = sum })) }
+    ensures { result_map_both {U = ℕ × ℕ × ℕ} (λ bins. (bins.number, bins.capacity, bins.sum)) (λ refusal. refusal) result
+        ≡ unless (first_of (empty_bin (capacity sum number) sum number ∷ [])) (Ok (number, capacity sum number, sum)) }
 {
     let capacity = sum.div_ceil(number as u64);
     if (number - 1) as u128 * capacity as u128 >= sum as u128 {

@@ -1,7 +1,8 @@
 ghost use Rattle.std.specs.Prelude.{◌≡◌, ◌+◌, ◌≤◌, length, sum};
-ghost use Rattle.partition.specs.Partition.{held_of, over_bins, or_no_word, Fillable};
+ghost use Rattle.draws.specs.Call.{or_no_word};
+ghost use Rattle.partition.specs.Partition.{over_bins};
 ghost use Rattle.partition.specs.Calls.{told, sample_quorum};
-ghost use Rattle.fill.specs.Columns.{HaveRoom, SameLoans};
+ghost use Rattle.fill.specs.Columns.{held_of, HaveRoom, SameLoans};
 
 use crate::bins::draw_bins;
 use crate::checks::{Bins, check_bins, check_columns, most_pieces};
@@ -45,8 +46,8 @@ impl PartitionSampler {
     ///
     /// # Errors
     ///
-    /// The first that applies: the list is empty or too long, there are too many bins, the seats or a column are too short for `n` stakes in
-    /// `b` bins (`b` seats, `n + b` pieces), the stakes sum past 64 bits or to 0, a bin would be empty, a word is missing.
+    /// The first that applies: the list is empty or too long, there are too many bins, the seats or a column are too short for `n` stakes
+    /// in `b` bins (`b` seats, `n + b` pieces), the stakes sum past 64 bits or to 0, a bin would be empty, a word is missing.
     pub fn sample_quorum<A: WordSource + Drop, B: WordSource + Drop>(
         self,
         stakes: &[u64],
@@ -82,7 +83,8 @@ impl PartitionSampler {
     }
 }
 
-// A partition, drawn in scratch space for the shuffled order and the seats.
+// A partition, drawn in scratch space for the shuffled order and the seats. That the sum is that of the list is asked, as in `draw_bins`;
+// the lengths too, since the entry has checked or made them and a slice's type does not say its length.
 fn draw_in<A: WordSource, B: WordSource>(
     space: &mut [u64],
     stakes: &[u64],
@@ -92,9 +94,9 @@ fn draw_in<A: WordSource, B: WordSource>(
     columns: &mut Columns,
 ) -> Result<Partition, Refusal>
     requires space { length space.old ≡ length stakes.now + bins.number }
-    requires fillable { Fillable (sum stakes.now) bins }
+    requires sum { bins.sum ≡ sum stakes.now }
     requires seats { bins.number ≤ length seats.old }
-    requires room { HaveRoom columns.old (length stakes.now + bins.number) }
+    requires room { HaveRoom (held_of columns.old) (length stakes.now + bins.number) }
     ensures told { (result, (seats.new, held_of columns.new))
         ≡ told (seats.old, held_of columns.old) (A.words words.old.first) (B.words words.old.second)
         (or_no_word (over_bins stakes.now bins.capacity bins.number (A.words words.old.first) (B.words words.old.second))) }

@@ -41,6 +41,8 @@ impl BinsSampler<2> for Sampler {
 struct PartitionCases;
 
 impl Cases for PartitionCases {
+    const NAMES: &'static [&'static str] = &["sample_quorum"];
+
     fn replay(operation: u64, text: &mut Reader, alloc: Global) -> Option<bool> {
         // A stored text names an operation by its number.
         match operation {
@@ -51,5 +53,5 @@ impl Cases for PartitionCases {
 }
 
 fn main(rt: HostRuntime) -> io::Result<()> {
-    cases::replay::<PartitionCases>(&rt, ROOM, &["sample_quorum"])
+    cases::replay::<PartitionCases>(&rt, ROOM)
 }

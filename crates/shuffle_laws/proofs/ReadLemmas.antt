@@ -7,6 +7,7 @@ use Rattle.words.specs.Draw.{and_then}
 use Rattle.draws.specs.Below.{below}
 use Rattle.draws.specs.Weighted.{weighted}
 use Rattle.draws.specs.Call.{after_checks, or_no_word}
+use Rattle.draws.proofs.CallLemmas.{left_as_drawn}
 use Rattle.draws.proofs.DrawLemmas.{after_leaves, draws_read_only}
 use Rattle.weighted_shuffle.specs.Order.{Left, Step, take_weight, take_zero, step, steps, whole, order}
 use Rattle.weighted_shuffle.specs.Entry.{shuffle_checks}
@@ -30,5 +31,4 @@ orders_read_only weights places nodes ws = checked (first_of (shuffle_checks (le
   where
     checked : (r : Result (Unit {0}) Refusal) → length (after_checks r ws (or_no_word (order weights ws))).1 ≤ length ws
     checked (Err refusal) = omega arith
-    checked (Ok passed) =
-        after_leaves (λ (r : Result (List ℕ) Refusal × List ℕ). r.1) (length ws) (order weights ws) _ _ (steps_read_only (length weights) (whole weights) ws) (λ left. omega arith) (λ ps left. omega arith)
+    checked (Ok passed) = rw (left_as_drawn (order weights ws)) (steps_read_only (length weights) (whole weights) ws)

@@ -2,13 +2,13 @@
 use Rattle.std.proofs.Common.{◌≡◌, ℕ, zero, suc, ◌<◌, Some, Result, Ok, Err, List, [], ◌∷◌, length, take, drop, refl, ap, take_at}
 use Rattle.std.specs.Prelude.{sum, All, OnOk}
 use Rattle.std.proofs.lemmas.List.{length-map}
-use Rattle.std.proofs.lemmas.List.Elements.{All-cons, All-nil}
+use Rattle.std.proofs.lemmas.List.Elements.{All-cons, All-nil, All-head, All-tail}
 use Rattle.draws.proofs.WeightedLemmas.{placed_has_weight}
 use Rattle.refusals.specs.declared.refusal.Refusal.{Refusal}
 use Rattle.refusals.specs.Refusal.{first_of, list_length, sum_checks}
 use Rattle.words.specs.Draw.{and_then}
 use Rattle.draws.specs.declared.weighted.Place.{Place}
-use Rattle.draws.specs.Weighted.{weighted, ids, AllPlaced, HasWeight}
+use Rattle.draws.specs.Weighted.{weighted, ids, Placed, HasWeight}
 use Rattle.draws.specs.Call.{or_no_word}
 use Rattle.draws.proofs.DrawLemmas.{went, weighted_placed}
 use Rattle.draws.proofs.CallLemmas.{accepted, drawn, passed, some_sum}
@@ -25,13 +25,13 @@ sample_placed stakes ws p left e =
 iid_placed : (k : ℕ) (stakes ws : List ℕ) (places : List Place) → 0 < sum stakes → (iid k stakes ws).0 ≡ Some places → Committee k stakes places
 iid_placed zero stakes ws places some e =
     let none : ◌≡◌ {A = List Place} [] places = cc in
-    rw (← none) (record { size = refl; placed = tt })
+    rw (← none) (record { size = refl; placed = All-nil (Placed stakes) })
 iid_placed (suc k) stakes ws places some e =
     let one = went (weighted stakes ws) (λ p left. and_then (iid k stakes left) (λ places rest. (Some (p ∷ places), rest))) places e in
     let others = went (iid k stakes one.rest) (λ places rest. (Some (one.value ∷ places), rest)) places one.second in
     let all : one.value ∷ others.value ≡ places = cc in
     let rest = iid_placed k stakes one.rest others.value some others.first in
-    rw (← all) (record { size = ap suc rest.size; placed = (weighted_placed stakes ws one.value some one.first, rest.placed) })
+    rw (← all) (record { size = ap suc rest.size; placed = All-cons (Placed stakes) _ _ (weighted_placed stakes ws one.value some one.first) rest.placed })
 
 pub quorum_placed : QuorumPlaced
 quorum_placed stakes k room ws places left e =
@@ -40,9 +40,10 @@ quorum_placed stakes k room ws places left e =
     iid_placed k stakes ws places some (drawn (iid k stakes ws) places call.is)
 
 -- the ids of a committee
-have_weight : (stakes : List ℕ) (places : List Place) → AllPlaced stakes places → All (HasWeight stakes) (ids places)
+have_weight : (stakes : List ℕ) (places : List Place) → All (Placed stakes) places → All (HasWeight stakes) (ids places)
 have_weight stakes [] are = All-nil (HasWeight stakes)
-have_weight stakes (p ∷ places) are = All-cons (HasWeight stakes) p.at (ids places) (placed_has_weight stakes p are.0) (have_weight stakes places are.1)
+have_weight stakes (p ∷ places) are =
+    All-cons (HasWeight stakes) p.at (ids places) (placed_has_weight stakes p (All-head (Placed stakes) p places are)) (have_weight stakes places (All-tail (Placed stakes) p places are))
 
 ids_committee : (k : ℕ) (stakes : List ℕ) (places : List Place) → Committee k stakes places → IsCommittee k stakes (ids places)
 ids_committee k stakes places are = record { size = rw length-map are.size; have_stake = have_weight stakes places are.placed }

@@ -2,7 +2,7 @@
 use Rattle.std.specs.Prelude.{ℕ, ◌≤◌, ◌≡◌, Ok, List, length, take, All, OnOk}
 use Rattle.refusals.specs.Refusal.{first_of}
 use Rattle.draws.specs.declared.weighted.Place.{Place}
-use Rattle.draws.specs.Weighted.{Placed, AllPlaced, HasWeight}
+use Rattle.draws.specs.Weighted.{Placed, HasWeight}
 use Rattle.stake_weighted.specs.Seats.{iid}
 use Rattle.stake_weighted.specs.Calls.{sampled, size_checks, quorum, sample_quorum}
 
@@ -13,7 +13,7 @@ SamplePlaced = (stakes ws : List ℕ) (p : Place) (left : List ℕ) → sampled 
 -- a committee has k seats, and each is such a validator
 pub record Committee (k : ℕ) (stakes : List ℕ) (places : List Place) : Type 0 where
   pub size : length places ≡ k
-  pub placed : AllPlaced stakes places
+  pub placed : All (Placed stakes) places
 
 abbrev pub QuorumPlaced : Type 0
 QuorumPlaced =

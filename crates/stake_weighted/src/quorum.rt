@@ -43,7 +43,7 @@ impl IidQuorumSampler {
     pub fn sample_quorum<W: WordSource + Drop>(
         self,
         stakes: &[u64],
-        words: W,
+        mut words: W,
         seats: &mut [u64],
     ) -> Result<Quorum, Refusal>
         ensures { (result, seats.new) ≡ sample_quorum self.k stakes.now seats.old (W.words words) }
@@ -52,7 +52,6 @@ impl IidQuorumSampler {
         check_list_length(n)?;
         check_size(k)?;
         check_room(seats.len(), k)?;
-        let mut words = words;
         with_scratch(
             n + k,
             0,
@@ -60,7 +59,8 @@ impl IidQuorumSampler {
         )
     }
 
-    // A committee, drawn in scratch space for the running sums and the seats.
+    // A committee, drawn in scratch space for the running sums and the seats. The lengths are asked, since the entry has checked or made
+    // them and a slice's type does not say its length.
     fn draw_in<W: WordSource>(
         self,
         space: &mut [u64],
@@ -80,7 +80,7 @@ impl IidQuorumSampler {
         draw_seats(words, weights, drawn).ok_or(Refusal::NoWordLeft)?;
         seats[..self.k].copy_from_slice(drawn);
         Ok(Quorum {
-            words_read: before.saturating_sub(words.words_left()),
+            words_read: words.read_since(before),
         })
     }
 }

@@ -3,7 +3,7 @@
 
 ghost use Rattle.std.specs.Prelude.{◌≤◌, length};
 
-use cases::{Cases, Reader, SEATS, STAKES, WORDS};
+use cases::{Cases, Reader, SEATS, STAKES, WORDS, agrees};
 use stake_weighted::{IidQuorumSampler, StakeWeightedSampler};
 use std::alloc::Global;
 use std::io;
@@ -23,7 +23,7 @@ fn sample_agrees(text: &mut Reader, alloc: Global) -> Option<bool>
     let words = ListWords::new(&list, cursor as usize);
     let answer = StakeWeightedSampler::new().sample(&stakes, words);
     let told = answer.map(|sample| [sample.id.inner(), sample.words_read as u64]);
-    Some(told.map_err(|refusal| refusal.number()) == expected)
+    Some(agrees(told, expected))
 }
 
 // A committee. The numbers are k, the cursor and how many seats are lent; the case expects the words read, then the seats.
@@ -41,13 +41,15 @@ fn quorum_agrees(text: &mut Reader, alloc: Global) -> Option<bool>
     let sampler = IidQuorumSampler::new(StakeWeightedSampler::new(), k as usize);
     let answer = sampler.sample_quorum(&stakes, words, &mut seats);
     let told = answer.map(|quorum| [quorum.words_read as u64]);
-    let same = told.map_err(|refusal| refusal.number()) == expected;
+    let same = agrees(told, expected);
     Some(same && cases::holds(&seats, &before, &seated))
 }
 
 struct StakeWeightedCases;
 
 impl Cases for StakeWeightedCases {
+    const NAMES: &'static [&'static str] = &["sample", "sample_quorum"];
+
     fn replay(operation: u64, text: &mut Reader, alloc: Global) -> Option<bool> {
         // A stored text names an operation by its number.
         match operation {
@@ -59,5 +61,5 @@ impl Cases for StakeWeightedCases {
 }
 
 fn main(rt: HostRuntime) -> io::Result<()> {
-    cases::replay::<StakeWeightedCases>(&rt, ROOM, &["sample", "sample_quorum"])
+    cases::replay::<StakeWeightedCases>(&rt, ROOM)
 }

@@ -1,8 +1,8 @@
 -- Every accepted call of FA1 over bins gives a fair committee.
 use Prim.Native.Nat.{ℕ, zero, suc, ◌+◌, ◌-◌, ◌*◌, ◌≤◌, ◌<◌}
 use mathlib.Core.Path.{◌≡◌, refl, sym, ap, ◌∙◌}
-use mathlib.Core.Bool.{true, false, cond}
-use mathlib.Core.List.{List, [], ◌∷◌, ◌++◌, map}
+use mathlib.Core.Bool.{false, cond}
+use mathlib.Core.List.{List, [], ◌∷◌, ◌++◌}
 use native.Mathlib.Omega.{arith}
 use lib.Dec.{eqb}
 use lib.ListN.{length, get_or, take, drop, replicate, length-append, length-replicate}
@@ -15,18 +15,18 @@ use Rattle.laws.specs.Counts.{count}
 use Rattle.laws.proofs.Counts.{count_none}
 use Rattle.laws.proofs.Lists.{sum_append}
 use Rattle.laws.proofs.Std.{total_is_sum, sum_of_is_sum_by}
-use Rattle.refusals.specs.Refusal.{Check, first_of, list_length, size_of_some, is_over_or_zero, short_buffer, sum_past, total_zero, empty_bin}
-use Rattle.fill.specs.declared.piece.Piece.{Piece}
-use Rattle.fill.specs.Columns.{column_after}
+use Rattle.refusals.specs.Refusal.{first_of, list_length, size_of_some, is_over_or_zero, short_buffer, sum_past, total_zero, empty_bin}
+use Rattle.fill.specs.Piece.{pieces_in}
+use Rattle.fill.proofs.ChooseLemmas.{columns_hold}
 use Rattle.fixed_seats.specs.Fixed.{fixed, fixed_of, kept_of, further, repeated}
 use Rattle.fixed_seats.proofs.SeatLemmas.{sum-cons}
 use Rattle.partition.specs.Partition.{capacity, Parted, parted, seat_ids, Given, short_pieces}
 use Rattle.partition.specs.Pieces.{sum_of_pieces, Filled}
-use Rattle.partition.proofs.PieceLaws.{over, over_filled, over_none, over_two, over_seats, capacity_fits, last_some, parted_some, passed}
+use Rattle.partition.proofs.PieceLaws.{over, over_filled, over_none, over_two, over_seats, capacity_fits, last_some, parted_some, passes_at, passed}
 use Rattle.fait_accompli.specs.declared.quorum.Fallback.TheVariants.{Bins}
 use Rattle.fait_accompli.specs.Seats.{committee, seats_of}
 use Rattle.fait_accompli.specs.Calls.{quorum_checks, quorum, told}
-use Rattle.together.specs.Committees.{pieces_in, Fair, CommitteesFair}
+use Rattle.together.specs.Committees.{Fair, CommitteesFair}
 use Rattle.together.proofs.KeptLaws.{fixed_at, kept_at, fixed_le, kept_none, nobody, kept_le}
 
 -- ---- how often an id stands among repeated ids
@@ -53,17 +53,6 @@ length-repeated : (j : ℕ) (cs : List ℕ) → length (repeated j cs) ≡ sum c
 length-repeated j [] = refl
 length-repeated j (c ∷ cs) =
     omega (arith, length-append (replicate c j) (repeated (j + 1) cs), length-replicate c j, length-repeated (j + 1) cs, sum-cons c cs)
-
--- ---- what stands in the columns
-
--- the columns whose front holds the pieces
-columns_hold : (ps : List Piece) (bs vs ss : List ℕ) →
-    pieces_in (length ps) (column_after (λ p. p.bin) ps bs) (column_after (λ p. p.validator) ps vs) (column_after (λ p. p.stake) ps ss) ≡ ps
-columns_hold ps bs vs ss = front ps (drop (length ps) bs) (drop (length ps) vs) (drop (length ps) ss)
-  where
-    front : (ps : List Piece) (bs vs ss : List ℕ) → pieces_in (length ps) (map (λ p. p.bin) ps ++ bs) (map (λ p. p.validator) ps ++ vs) (map (λ p. p.stake) ps ++ ss) ≡ ps
-    front [] bs vs ss = refl
-    front (p ∷ ps) bs vs ss = ap (p ∷◌) (front ps bs vs ss)
 
 -- ---- a committee whose further seats are drawn
 
@@ -146,13 +135,6 @@ module _ (k : ℕ) (list : List ℕ) (seat : 0 < k) (some : 0 < total list) (p :
 
 -- ---- every accepted call
 
--- a check that stands among others which pass
-passes_at : (before : List Check) (check : Check) (after : List Check) → first_of (before ++ check ∷ after) ≡ Ok tt → check.0 ≡ false
-passes_at [] (true, refusal) after e = cc
-passes_at [] (false, refusal) after e = refl
-passes_at ((true, refusal) ∷ before) check after e = cc
-passes_at ((false, refusal) ∷ before) check after e = passes_at before check after e
-
 above_zero : (n : ℕ) → eqb n 0 ≡ false → 0 < n
 above_zero zero e = cc
 above_zero (suc n) e = omega arith
@@ -181,8 +163,8 @@ committees_fair k list first second seats bins validators stakes r e =
     go : (o : Given) → ((p : Parted) → o.0 ≡ Ok p → Fair k list (seats_of (Bins k) list p) (further k list) p.pieces) →
         let call = told (Bins k) list (seats, (bins, validators, stakes)) first second o in
         call.0 ≡ Ok r → Fair k list (take k call.1.0) r.further (pieces_in r.pieces call.1.1.0 call.1.1.1 call.1.1.2)
-    go (Err refusal, left, rest) fair t = cc
-    go (Ok p, left, rest) fair t =
+    go (Err refusal, (left, rest)) fair t = cc
+    go (Ok p, (left, rest)) fair t =
         let f = fair p refl in
         let same : record { further = further k list; pieces = length p.pieces; first_words_read = length first - length left; second_words_read = length second - length rest } ≡ r = cc in
         let front : take k (seats_of (Bins k) list p ++ drop (length (seats_of (Bins k) list p)) seats) ≡ seats_of (Bins k) list p = take_at (seats_of (Bins k) list p) _ k f.size in

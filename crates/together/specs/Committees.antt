@@ -2,21 +2,16 @@
 --
 -- It speaks of what such a call answers and of what it was lent then holds, by the definition that the call's contract equates them with,
 -- whatever the stakes, the size, both lists of words and what the buffers held before.
-use Rattle.std.specs.Prelude.{ℕ, zero, suc, ◌+◌, ◌*◌, ◌%◌, ◌≤◌, ◌<◌, ◌≡◌, Ok, List, [], ◌∷◌, ◌==◌, length, slice_index, take, drop}
+use Rattle.std.specs.Prelude.{ℕ, ◌+◌, ◌*◌, ◌%◌, ◌≤◌, ◌<◌, ◌≡◌, Ok, List, [], ◌==◌, length, slice_index, take}
 use Rattle.laws.specs.Sums.{total}
 use Rattle.laws.specs.Counts.{count_below, count}
 use Rattle.fill.specs.declared.piece.Piece.{Piece}
+use Rattle.fill.specs.Piece.{pieces_in}
 use Rattle.partition.specs.Pieces.{in_bin, of, sum_of_pieces, chooses}
 use Rattle.fixed_seats.specs.Fixed.{fixed, kept, further}
 use Rattle.fait_accompli.specs.declared.quorum.Fallback.TheVariants.{Bins}
 use Rattle.fait_accompli.specs.declared.quorum.Committee.{Committee}
 use Rattle.fait_accompli.specs.Calls.{sample_quorum}
-
--- the first n pieces that three columns hold
-abbrev pub pieces_in : ℕ → List ℕ → List ℕ → List ℕ → List Piece
-pieces_in zero bs vs ss = []
-pieces_in (suc n) bs vs ss =
-    record { bin = slice_index bs 0; validator = slice_index vs 0; stake = slice_index ss 0 } ∷ pieces_in n (drop 1 bs) (drop 1 vs) (drop 1 ss)
 
 -- The seats and pieces of a committee of size k from a list. i is a validator's id, so slice_index list i its stake s, and total list is T;
 -- j is a bin's number; further k list is k', the number of bins.

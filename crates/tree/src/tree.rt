@@ -7,8 +7,9 @@ use crate::index::{child, offset, parent};
 use crate::node::Node;
 use crate::sizes::get_num_nodes_and_tree_size;
 
-/// A tree of the sums of weights, over lent nodes. Each contract says that it holds them: a model of a struct of lent nodes would hide
-/// from the lender what becomes of them, and a fact in the struct would not hold while a change goes from node to node.
+/// A tree of the sums of weights, over lent nodes. C lends them as one array, so one node names another by its index. It has no model: by
+/// a model a lender would learn nothing of what its nodes hold afterwards. Each contract says that the nodes hold the sums, since a fact
+/// in the struct would not hold while a change goes from node to node.
 #[derive(Debug, Drop)]
 pub struct Tree<'a> {
     pub nodes: &'a mut [Node],
@@ -67,7 +68,8 @@ impl Tree<'_> {
         }
     }
 
-    // On the way from a position up to the root, by index from node to node, one weight takes the place of another in each sum.
+    // On the way from a position up to the root, one weight takes the place of another in each sum. The way goes by index from node to
+    // node, so there is no list to iterate.
     fn change(&mut self, position: usize, from: u64, to: u64)
         requires holds { Holds self.old (weights_of self.old) }
         requires place { position < self.old.count }

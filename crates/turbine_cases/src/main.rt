@@ -1,9 +1,12 @@
 //! Replays stored cases of Turbine views, of seeds and of relays, and prints for each function how many agree.
 #![tactic(auto)]
 
-ghost use Rattle.std.specs.Prelude.{◌≡◌, ◌≤◌, length};
+ghost use Rattle.std.specs.Prelude.{◌≡◌, ◌≤◌, ◌↔◌, length, take, Err, Ok, IfOk, IfErr, IsTrue};
+ghost use Rattle.refusals.specs.Refusal.{number_of};
+ghost use Rattle.turbine_cases.specs.Told.{numbers_of};
 
-use cases::{Cases, Reader, SEATS, STAKES, WORDS};
+use cases::{Cases, Reader, SEATS, STAKES, WORDS, agrees};
+use nodes_cases::{NODES, hold_after, nodes_before};
 use refusals::Refusal;
 use rotor::{TOTAL_SHREDS, sample_relay};
 use seeds::{rotor_seed, turbine_seed};
@@ -19,9 +22,7 @@ const ROOM: usize = 524288;
 // The most bytes of a seed of a case.
 const BYTES: u64 = 64;
 
-// What each sum of the lent nodes is before a call, and each byte of a lent seed.
-const HELD: u64 = u64::MAX;
-
+// What each byte of a lent seed is before a call.
 const HELD_BYTE: u8 = 165;
 
 // The constants are the Rust's. Nothing calls this: the check proves it.
@@ -31,7 +32,9 @@ fn constants()
 {}
 
 // A view's numbers as a stored text writes them: the root, 1 and the parent's id or two zeros, and the words read.
-fn told(view: View) -> [u64; 4] {
+fn told(view: View) -> [u64; 4]
+    ensures { result ≡ numbers_of view }
+{
     let (named, parent) = match view.tree.get_parent() {
         Some(id) => (1, id.inner()),
         None => (0, 0),
@@ -44,14 +47,18 @@ fn told(view: View) -> [u64; 4] {
     ]
 }
 
-// Whether a call answers as stated and, where it is accepted, names these children. By a `match`: the check of borrows does not cover a
-// view that is used again after `map`.
+// Whether a call answers as stated and, where it is accepted, names these children.
+// By a `match`: tried with `map`, and the check of borrows refused the view's second use.
 fn answers(
     view: Result<View, Refusal>,
     expected: Result<[u64; 4], u64>,
     children: &[u64],
     named: &[u64],
-) -> bool {
+) -> bool
+    ensures accepted { IfOk view (λ v.
+        IsTrue result ↔ (Ok (numbers_of v) ≡ expected) × (take v.tree.children children.now ≡ named.now)) }
+    ensures refused { IfErr view (λ refusal. IsTrue result ↔ (Err (number_of refusal) ≡ expected)) }
+{
     match view {
         Ok(view) => expected == Ok(told(view)) && view.tree.get_children(children) == named,
         Err(refusal) => expected == Err(refusal.number()),
@@ -73,8 +80,8 @@ fn view_agrees(text: &mut Reader, alloc: Global) -> Option<bool>
     let children_before = cases::lent(most_children, STAKES, alloc)?;
     let mut order = order_before.clone().ok()?;
     let mut children = children_before.clone().ok()?;
-    let mut nodes = [nodes_cases::filled(HELD); 280];
-    let lent = nodes_lent.min(280) as usize;
+    let mut nodes = nodes_before();
+    let lent = nodes_lent.min(NODES as u64) as usize;
     let view = TurbineTree::new(
         &stakes,
         fanout as usize,
@@ -85,7 +92,7 @@ fn view_agrees(text: &mut Reader, alloc: Global) -> Option<bool>
         &mut children,
     );
     let same = answers(view, expected, &children, &named);
-    let same_nodes = nodes_cases::left_so(&nodes, expected.is_ok(), stakes.len(), HELD);
+    let same_nodes = hold_after(&nodes, expected.is_ok(), stakes.len());
     let same_lists = cases::holds(&order, &order_before, &ordered)
         && cases::holds(&children, &children_before, &named);
     Some(same && same_nodes && same_lists)
@@ -101,15 +108,15 @@ fn seed_agrees<F: FnOnce(u64, u64, &mut [u8]) -> Result<(), Refusal>>(
     ensures { length text.new ≤ length text.old }
 {
     let [slot, part, places] = text.numbers::<3>()?;
-    let refusal = text.number()?;
-    let wanted = text.list_if(refusal == 0, BYTES, alloc)?;
+    let expected = text.expected::<0>()?;
+    let wanted = text.list_if(expected.is_ok(), BYTES, alloc)?;
     let lent = places.min(BYTES) as usize;
     let before = [u64::from(HELD_BYTE); 64];
     let mut seed = [HELD_BYTE; 64];
     let seed = &mut seed[..lent];
     let answer = write_seed(slot, part, seed);
-    let told = answer.map_or_else(|refusal| refusal.number(), |()| 0);
-    Some(told == refusal && cases::holds(seed, &before[..lent], &wanted))
+    let same = agrees(answer.map(|()| []), expected);
+    Some(same && cases::holds(seed, &before[..lent], &wanted))
 }
 
 // A relay. The number is the shred's position; the case expects the relay's id.
@@ -121,12 +128,14 @@ fn relay_agrees(text: &mut Reader, alloc: Global) -> Option<bool>
     let expected = text.expected::<1>()?;
     let relay = sample_relay(&seats, shred as usize);
     let told = relay.map(|id| [id.inner()]);
-    Some(told.map_err(|refusal| refusal.number()) == expected)
+    Some(agrees(told, expected))
 }
 
 struct TurbineCases;
 
 impl Cases for TurbineCases {
+    const NAMES: &'static [&'static str] = &["view", "turbine_seed", "rotor_seed", "relay"];
+
     fn replay(operation: u64, text: &mut Reader, alloc: Global) -> Option<bool> {
         // A stored text names an operation by its number.
         match operation {
@@ -140,6 +149,5 @@ impl Cases for TurbineCases {
 }
 
 fn main(rt: HostRuntime) -> io::Result<()> {
-    let names = ["view", "turbine_seed", "rotor_seed", "relay"];
-    cases::replay::<TurbineCases>(&rt, ROOM, &names)
+    cases::replay::<TurbineCases>(&rt, ROOM)
 }

@@ -3,7 +3,7 @@ ghost use Rattle.partition.specs.Calls.{Lent};
 ghost use Rattle.partition.specs.Calls as partition;
 ghost use Rattle.fait_accompli.specs.declared.quorum.Fallback.TheVariants.{Bins, Draws};
 ghost use Rattle.fait_accompli.specs.Calls as committee;
-ghost use Rattle.valwydr.specs.Told.{partition_values, partition_told, committee_values, committee_told, without_columns};
+ghost use Rattle.valwydr.specs.Told.{told, partition_values, committee_values};
 
 use crate::tell::tell;
 use fait_accompli::{Committee, FaitAccompli1Sampler};
@@ -40,9 +40,10 @@ pub extern "C" fn valwydr_partition_sample_quorum(
     answer: &mut [u64; 3],
 ) -> u64
     ensures { let lent : Lent = (seats.old, (piece_bins.old, piece_validators.old, piece_stakes.old)) in
-        (result, answer.new, (seats.new, (piece_bins.new, piece_validators.new, piece_stakes.new)))
-        ≡ partition_told answer.old
-        (partition.sample_quorum (record { num_bins = num_bins }) stakes.now lent (drop first_cursor first.now) (drop second_cursor second.now)) }
+        let call = partition.sample_quorum (record { num_bins = num_bins }) stakes.now lent
+        (drop first_cursor first.now) (drop second_cursor second.now) in
+        ((result, answer.new) ≡ told partition_values answer.old call.0)
+        × ((seats.new, (piece_bins.new, piece_validators.new, piece_stakes.new)) ≡ call.1) }
 {
     let mut columns = Columns {
         bins: piece_bins,
@@ -70,7 +71,8 @@ fn committee_values(committee: Committee) -> [u64; 4]
 
 /// A committee of `k`: the fixed seats, then those from bins, with the pieces in their columns. The answer: how many seats are not fixed,
 /// the number of pieces, the words read of each list.
-// Over seven parameters: C passes each slice and each cursor by itself.
+// Over seven parameters: C passes each slice and each cursor by itself. The body is that of the partition but for the sampler: a function
+// for both would be lent each slice again, with a closure and a contract over all of them, and be longer.
 #[unsafe(no_mangle)]
 pub extern "C" fn valwydr_fait_accompli1_with_partition_fallback(
     k: usize,
@@ -86,9 +88,10 @@ pub extern "C" fn valwydr_fait_accompli1_with_partition_fallback(
     answer: &mut [u64; 4],
 ) -> u64
     ensures { let lent : Lent = (seats.old, (piece_bins.old, piece_validators.old, piece_stakes.old)) in
-        (result, answer.new, (seats.new, (piece_bins.new, piece_validators.new, piece_stakes.new)))
-        ≡ committee_told answer.old
-        (committee.sample_quorum (record { fallback = Bins k }) stakes.now lent (drop first_cursor first.now) (drop second_cursor second.now)) }
+        let call = committee.sample_quorum (record { fallback = Bins k }) stakes.now lent
+        (drop first_cursor first.now) (drop second_cursor second.now) in
+        ((result, answer.new) ≡ told committee_values answer.old call.0)
+        × ((seats.new, (piece_bins.new, piece_validators.new, piece_stakes.new)) ≡ call.1) }
 {
     let mut columns = Columns {
         bins: piece_bins,
@@ -113,9 +116,9 @@ pub extern "C" fn valwydr_fait_accompli1_with_stake_weighted_fallback(
     seats: &mut [u64],
     answer: &mut [u64; 4],
 ) -> u64
-    ensures { (result, answer.new, seats.new)
-        ≡ without_columns
-        (committee_told answer.old (committee.sample_quorum (record { fallback = Draws k }) stakes.now (seats.old, ([], [], [])) (drop cursor list.now) [])) }
+    ensures { let call = committee.sample_quorum (record { fallback = Draws k }) stakes.now (seats.old, ([], [], []))
+        (drop cursor list.now) [] in
+        ((result, answer.new) ≡ told committee_values answer.old call.0) × (seats.new ≡ call.1.0) }
 {
     let mut columns = Columns {
         bins: &mut [],

@@ -1,6 +1,6 @@
 ghost use Rattle.std.specs.Prelude.{◌≡◌, length, drop, replicate};
 ghost use Rattle.decaying_acceptance.specs.Calls.{sample_one, sample_quorum};
-ghost use Rattle.valwydr.specs.Told.{tried_values, tried_told, tried_quorum_values, tried_quorum_told};
+ghost use Rattle.valwydr.specs.Told.{told, tried_values, tried_quorum_values};
 
 use crate::tell::tell;
 use decaying_acceptance::{DecayingAcceptanceSampler, Quorum, Sample};
@@ -28,10 +28,9 @@ pub extern "C" fn valwydr_decaying_acceptance_sample_one(
     cursor: usize,
     answer: &mut [u64; 3],
 ) -> u64
-    ensures { (result, answer.new, counts.new)
-        ≡ tried_told answer.old
-        (sample_one (record { limits = record { max_samples = max_samples; tries_allowed = tries_allowed }; k = 1 })
-        stakes.now counts.old (drop cursor list.now)) }
+    ensures { let call = sample_one (record { limits = record { max_samples = max_samples; tries_allowed = tries_allowed }; k = 1 })
+        stakes.now counts.old (drop cursor list.now) in
+        ((result, answer.new) ≡ told tried_values answer.old call.0) × (counts.new ≡ call.1) }
 {
     let sampler = DecayingAcceptanceSampler::new(max_samples, tries_allowed, 1);
     let call = sampler.sample_one(stakes, counts, ListWords::new(list, cursor));
@@ -60,10 +59,9 @@ pub extern "C" fn valwydr_decaying_acceptance_sample_quorum(
     seats: &mut [u64],
     answer: &mut [u64; 2],
 ) -> u64
-    ensures { (result, answer.new, counts.new, seats.new)
-        ≡ tried_quorum_told answer.old
-        (sample_quorum (record { limits = record { max_samples = max_samples; tries_allowed = tries_allowed }; k = k })
-        stakes.now counts.old seats.old (drop cursor list.now)) }
+    ensures { let call = sample_quorum (record { limits = record { max_samples = max_samples; tries_allowed = tries_allowed }; k = k })
+        stakes.now counts.old seats.old (drop cursor list.now) in
+        ((result, answer.new) ≡ told tried_quorum_values answer.old call.0) × (counts.new ≡ call.1) × (seats.new ≡ call.2) }
 {
     let sampler = DecayingAcceptanceSampler::new(max_samples, tries_allowed, k);
     let call = sampler.sample_quorum(stakes, counts, ListWords::new(list, cursor), seats);

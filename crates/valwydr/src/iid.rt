@@ -1,6 +1,6 @@
 ghost use Rattle.std.specs.Prelude.{◌≡◌, drop};
 ghost use Rattle.stake_weighted.specs.Calls.{sample, sample_quorum};
-ghost use Rattle.valwydr.specs.Told.{sample_values, sample_told, quorum_values, quorum_told};
+ghost use Rattle.valwydr.specs.Told.{told, sample_values, quorum_values};
 
 use crate::tell::tell;
 use stake_weighted::{IidQuorumSampler, Quorum, Sample, StakeWeightedSampler};
@@ -21,7 +21,7 @@ pub extern "C" fn valwydr_stake_weighted_sample(
     cursor: usize,
     answer: &mut [u64; 2],
 ) -> u64
-    ensures { (result, answer.new) ≡ sample_told answer.old (sample stakes.now (drop cursor list.now)) }
+    ensures { (result, answer.new) ≡ told sample_values answer.old (sample stakes.now (drop cursor list.now)) }
 {
     let sampler = StakeWeightedSampler::new();
     let call = sampler.sample(stakes, ListWords::new(list, cursor));
@@ -45,8 +45,8 @@ pub extern "C" fn valwydr_iid_sample_quorum(
     seats: &mut [u64],
     answer: &mut [u64; 1],
 ) -> u64
-    ensures { (result, answer.new, seats.new)
-        ≡ quorum_told answer.old (sample_quorum k stakes.now seats.old (drop cursor list.now)) }
+    ensures { let call = sample_quorum k stakes.now seats.old (drop cursor list.now) in
+        ((result, answer.new) ≡ told quorum_values answer.old call.0) × (seats.new ≡ call.1) }
 {
     let sampler = IidQuorumSampler::new(StakeWeightedSampler::new(), k);
     let call = sampler.sample_quorum(stakes, ListWords::new(list, cursor), seats);

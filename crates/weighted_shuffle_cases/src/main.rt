@@ -1,9 +1,11 @@
 //! Replays stored cases of the weighted shuffle, and prints for each function how many agree.
 #![tactic(auto)]
 
-ghost use Rattle.std.specs.Prelude.{◌≤◌, length};
+ghost use Rattle.std.specs.Prelude.{◌≡◌, ◌≤◌, ◌↔◌, [], Err, length, reverse, take, IfSome, IsTrue};
+ghost use Rattle.weighted_shuffle.specs.Entry.{shuffle};
 
-use cases::{Cases, Reader, WORDS};
+use cases::{Cases, Reader, STAKES, WORDS, agrees};
+use nodes_cases::{HELD, NODES, filled, hold_after, nodes_before};
 use refusals::Refusal;
 use std::alloc::Global;
 use std::io;
@@ -14,15 +16,10 @@ use words::ListWords;
 // A text of so many bytes is too long. A test of the stored texts reads it in each program.
 const ROOM: usize = 524288;
 
-// The most weights and places, positions and sums of a case.
-const WEIGHTS: u64 = 4200;
-
+// The most positions and sums of a case.
 const POSITIONS: u64 = 4096;
 
 const SUMS: u64 = 4368;
-
-// What each sum of the lent nodes is before a call.
-const HELD: u64 = u64::MAX;
 
 // The sizes of a tree. The case's number is the count; it expects both sizes.
 fn sizes_agree(text: &mut Reader) -> Option<bool>
@@ -31,26 +28,29 @@ fn sizes_agree(text: &mut Reader) -> Option<bool>
     let count = text.number()?;
     let expected = text.expected::<2>()?;
     let sizes = get_num_nodes_and_tree_size(count as usize);
-    Some(expected == Ok([sizes.num_nodes as u64, sizes.tree_size as u64]))
+    Some(agrees(
+        Ok([sizes.num_nodes as u64, sizes.tree_size as u64]),
+        expected,
+    ))
 }
 
-// The refusal by which its input turns a call down: without a word, one that its input passes only lacks this.
-fn turned_down(weights: &[u64], order: &mut [u64], nodes: &mut [Node]) -> Option<Refusal> {
+// The refusal for which the input alone is the reason: the call is made without a word, so `NoWordLeft` is no such refusal.
+fn turned_down(weights: &[u64], order: &mut [u64], nodes: &mut [Node]) -> Option<Refusal>
+    ensures { IfSome result (λ refusal. (Err refusal, order.new, nodes.new) ≡ shuffle weights.now order.old nodes.old []) }
+{
     let refusal = shuffle(weights, ListWords::new(&[], 0), order, nodes).err()?;
     (refusal != Refusal::NoWordLeft).then_some(refusal)
 }
 
 // Whether a tree's nodes hold these sums, one after the other.
 fn same_sums(nodes: &[Node], sums: &[u64]) -> bool {
-    sums.len() == 16 * nodes.len()
-        && nodes
-            .iter()
-            .zip(sums.chunks_exact(16))
-            .all(|(node, part)| node.sums.as_slice() == part)
+    nodes.iter().flat_map(|node| node.sums.iter()).eq(sums)
 }
 
 // Whether a list ends with another read backwards.
-fn ends_backwards(list: &[u64], end: &[u64]) -> bool {
+fn ends_backwards(list: &[u64], end: &[u64]) -> bool
+    ensures { IsTrue result ↔ (take (length end.now) (reverse list.now) ≡ end.now) }
+{
     end.len() <= list.len() && list.iter().rev().zip(end).all(|(a, b)| a == b)
 }
 
@@ -67,7 +67,7 @@ fn begins(
         return Some(false);
     }
     let size = get_num_nodes_and_tree_size(n).tree_size;
-    let mut nodes = vec![in alloc; nodes_cases::filled(HELD); size].ok()?;
+    let mut nodes = vec![in alloc; filled(HELD); size].ok()?;
     let mut drawn = vec![in alloc; HELD; n].ok()?;
     let tree = begin(weights, &mut nodes, &mut drawn);
     let same = tree.total == weight && same_sums(tree.nodes, sums);
@@ -79,14 +79,15 @@ fn begin_agrees(text: &mut Reader, alloc: Global) -> Option<bool>
     ensures { length text.new ≤ length text.old }
 {
     let [places, nodes_lent] = text.numbers::<2>()?;
-    let weights = text.list(WEIGHTS, alloc)?;
+    let weights = text.list(STAKES, alloc)?;
     let expected = text.expected::<1>()?;
     let sums = text.list_if(expected.is_ok(), SUMS, alloc)?;
     let zeros = text.list_if(expected.is_ok(), POSITIONS, alloc)?;
-    let mut order = cases::lent(places, WEIGHTS, alloc)?;
-    let mut nodes = [nodes_cases::filled(HELD); 280];
-    let lent = nodes_lent.min(280) as usize;
+    let mut order = cases::lent(places, STAKES, alloc)?;
+    let mut nodes = nodes_before();
+    let lent = nodes_lent.min(NODES as u64) as usize;
     let refusal = turned_down(&weights, &mut order, &mut nodes[..lent]);
+    // Not by `agrees`: of an accepted call there is no answer here, and `begins` compares what it must begin with.
     match expected {
         Ok(weight) => Some(refusal.is_none() && begins(&weights, weight[0], &sums, &zeros, alloc)?),
         Err(number) => Some(refusal.map(|r| r.number()) == Some(number)),
@@ -98,24 +99,26 @@ fn shuffle_agrees(text: &mut Reader, alloc: Global) -> Option<bool>
     ensures { length text.new ≤ length text.old }
 {
     let [cursor, places] = text.numbers::<2>()?;
-    let weights = text.list(WEIGHTS, alloc)?;
+    let weights = text.list(STAKES, alloc)?;
     let list = text.list(WORDS, alloc)?;
     let expected = text.expected::<1>()?;
-    let ordered = text.list_if(expected.is_ok(), WEIGHTS, alloc)?;
-    let before = cases::lent(places, WEIGHTS, alloc)?;
+    let ordered = text.list_if(expected.is_ok(), STAKES, alloc)?;
+    let before = cases::lent(places, STAKES, alloc)?;
     let mut order = before.clone().ok()?;
-    let mut nodes = [nodes_cases::filled(HELD); 280];
+    let mut nodes = nodes_before();
     let words = ListWords::new(&list, cursor as usize);
     let answer = shuffle(&weights, words, &mut order, &mut nodes);
-    let same_nodes = nodes_cases::left_so(&nodes, answer.is_ok(), weights.len(), HELD);
+    let same_nodes = hold_after(&nodes, answer.is_ok(), weights.len());
     let told = answer.map(|order| [order.words_read as u64]);
-    let same = told.map_err(|refusal| refusal.number()) == expected;
+    let same = agrees(told, expected);
     Some(same && same_nodes && cases::holds(&order, &before, &ordered))
 }
 
 struct ShuffleCases;
 
 impl Cases for ShuffleCases {
+    const NAMES: &'static [&'static str] = &["get_num_nodes_and_tree_size", "begin", "shuffle"];
+
     fn replay(operation: u64, text: &mut Reader, alloc: Global) -> Option<bool> {
         // A stored text names an operation by its number.
         match operation {
@@ -128,6 +131,5 @@ impl Cases for ShuffleCases {
 }
 
 fn main(rt: HostRuntime) -> io::Result<()> {
-    let names = ["get_num_nodes_and_tree_size", "begin", "shuffle"];
-    cases::replay::<ShuffleCases>(&rt, ROOM, &names)
+    cases::replay::<ShuffleCases>(&rt, ROOM)
 }
