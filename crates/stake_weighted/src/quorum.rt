@@ -6,6 +6,7 @@ ghost use Rattle.stake_weighted.specs.Seats.{iid, iid_seats};
 ghost use Rattle.stake_weighted.specs.Calls.{quorum_answer, sample_quorum};
 
 use crate::sample::StakeWeightedSampler;
+use buffers::store;
 use draws::{Weights, draw_weighted};
 use refusals::{Refusal, check_list_length, check_room, check_size};
 use scratch::with_scratch;
@@ -78,7 +79,7 @@ impl IidQuorumSampler {
         let weights = Weights::new(stakes, sums)?;
         let before = words.words_left();
         draw_seats(words, weights, drawn).ok_or(Refusal::NoWordLeft)?;
-        seats[..self.k].copy_from_slice(drawn);
+        store(drawn, seats);
         Ok(Quorum {
             words_read: words.read_since(before),
         })
