@@ -15,7 +15,7 @@ use Rattle.fait_accompli.specs.declared.quorum.Fallback.{Fallback}
 use Rattle.fait_accompli.specs.declared.quorum.Fallback.TheVariants.{Bins, Draws}
 use Rattle.fait_accompli.specs.Seats.{size_of, Roomy}
 use Rattle.fait_accompli.specs.Calls.{piece_checks, bin_checks}
-use Rattle.fait_accompli.specs.Laws.{FallbackReadsOnly, CommitteeReadsOnly, CommitteeAdmitted}
+use Rattle.fait_accompli.specs.Laws.{FallbackReadsOnly, CommitteeReadsOnly, CommitteeAdmitted, CommitteeSized}
 
 pub fallback_reads_only : FallbackReadsOnly
 fallback_reads_only (Bins k) weights b first second = partition_reads_only weights b first second
@@ -34,11 +34,10 @@ have_pieces : (f : Fallback) (n : ℕ) (held : Held) (checks : List Check) → f
 have_pieces (Bins k) n held checks e = have_places held (n + k) checks e
 have_pieces (Draws k) n held checks e = tt
 
-pub committee_admitted : CommitteeAdmitted
-committee_admitted f list (seats, held) e =
+pub committee_sized : CommitteeSized
+committee_sized f list (seats, held) others e =
     let n = length list in
-    let bins = bin_checks f (kept_of (size_of f) list) (further (size_of f) list) in
-    let last = sum_checks list ++ bins in
+    let last = sum_checks list ++ others in
     let columns = piece_checks f n held ++ last in
     let a = past (list_length n) (size_of_some (size_of f) ∷ short_buffer (length seats) (size_of f) ∷ columns) e in
     let b = past (size_of_some (size_of f)) (short_buffer (length seats) (size_of f) ∷ columns) a.others in
@@ -52,5 +51,8 @@ committee_admitted f list (seats, held) e =
       size = size.most;
       room = ltb-false (length seats) (size_of f) c.not_first;
       pieces = have_pieces f n held last c.others;
-      some_stake = have_stake (piece_checks f n held) list bins c.others;
+      some_stake = have_stake (piece_checks f n held) list others c.others;
     }
+
+pub committee_admitted : CommitteeAdmitted
+committee_admitted f list lent e = committee_sized f list lent (bin_checks f (kept_of (size_of f) list) (further (size_of f) list)) e

@@ -1,13 +1,14 @@
 -- What a call of the sampler gives: the first refusal from its input, else the committee.
-use Rattle.std.specs.Prelude.{ℕ, ◌+◌, Result, Ok, Err, List, [], ◌∷◌, ◌++◌, length, sum}
+use Rattle.std.specs.Prelude.{ℕ, ◌+◌, Result, Ok, Err, List, [], ◌∷◌, ◌++◌, length}
 use Rattle.refusals.specs.declared.refusal.Refusal.{Refusal}
-use Rattle.refusals.specs.Refusal.{Check, first_of, list_length, size_of_some, short_buffer, sum_checks, empty_bin}
+use Rattle.refusals.specs.Refusal.{Check, first_of, list_length, size_of_some, short_buffer, sum_checks}
 use Rattle.laws.specs.Buffers.{written}
 use Rattle.words.specs.Draw.{words_read}
 use Rattle.draws.specs.Call.{after_checks, or_no_word}
 use Rattle.fill.specs.Columns.{Held, columns_of}
-use Rattle.partition.specs.Partition.{capacity, short_pieces, seat_ids, Given}
+use Rattle.partition.specs.Partition.{short_pieces, Given}
 use Rattle.partition.specs.Calls.{Lent}
+use Rattle.partition.specs.Calls as partition
 use Rattle.fixed_seats.specs.Fixed.{kept_of, further}
 use Rattle.fait_accompli.specs.declared.quorum.Fallback.{Fallback}
 use Rattle.fait_accompli.specs.declared.quorum.Fallback.TheVariants.{Bins, Draws}
@@ -27,7 +28,7 @@ size_checks f list (seats, held) =
 
 -- 11, for b seats over any weights
 abbrev pub bin_checks : Fallback → List ℕ → ℕ → List Check
-bin_checks (Bins k) weights b = empty_bin (capacity (sum weights) b) (sum weights) b ∷ []
+bin_checks (Bins k) weights b = partition.bin_checks weights b
 bin_checks (Draws k) weights b = []
 
 -- 1, 2, 7, 8, 9, and 11 over bins: "k' in FA1"
@@ -64,12 +65,3 @@ others f weights b first second =
 -- the same over what a list keeps
 abbrev pub committee_over : Fallback → List ℕ → List ℕ → List ℕ → Given
 committee_over f list first second = others f (kept_of (size_of f) list) (further (size_of f) list) first second
-
--- the number of pieces with the seats, or the refusal; and what the columns hold
-abbrev pub with_seats : List ℕ → Result ℕ Refusal → Result (ℕ × List ℕ) Refusal
-with_seats seats (Err refusal) = Err refusal
-with_seats seats (Ok n) = Ok (n, seats)
-
-abbrev pub placed_or : Held → Given → Result (ℕ × List ℕ) Refusal × Held × List ℕ × List ℕ
-placed_or held (Err refusal, (left, rest)) = (Err refusal, held, left, rest)
-placed_or held (Ok p, (left, rest)) = (Ok (length p.pieces, seat_ids p), columns_of p.pieces held, left, rest)

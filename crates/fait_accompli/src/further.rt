@@ -1,12 +1,13 @@
 ghost use Rattle.std.specs.Prelude.{◌≡◌, ◌<◌, length, sum};
 ghost use Rattle.fill.specs.Columns.{held_of, SameLoans};
 ghost use Rattle.fait_accompli.specs.Seats.{Roomy};
-ghost use Rattle.fait_accompli.specs.Calls.{others, with_seats, placed_or};
+ghost use Rattle.partition.specs.Calls.{with_seats, placed_or};
+ghost use Rattle.fait_accompli.specs.Calls.{others};
 
 use crate::quorum::Fallback;
 use draws::Weights;
 use fill::Columns;
-use partition::{Sources, check_bins, draw_bins};
+use partition::{Sources, draw_parted};
 use refusals::Refusal;
 use stake_weighted::draw_seats;
 use words::WordSource;
@@ -40,10 +41,7 @@ pub fn draw_further<A: WordSource, B: WordSource>(
         return Ok(0);
     }
     match fallback {
-        Fallback::Bins(_) => {
-            let bins = check_bins(kept.total, seats.len())?;
-            draw_bins(kept.stakes, bins, words, space, seats, columns).ok_or(Refusal::NoWordLeft)
-        }
+        Fallback::Bins(_) => draw_parted(kept.stakes, kept.total, words, space, seats, columns),
         Fallback::Draws(_) => {
             // Never turned down here: what is kept sums to over 0, and to no more than 64 bits hold.
             let weights = Weights::new(kept.stakes, space)?;

@@ -6,6 +6,7 @@ ghost use Rattle.fait_accompli.specs.Seats.{size_of, Roomy};
 ghost use Rattle.fait_accompli.specs.Calls.{piece_checks, committee_over, told, sample_quorum};
 
 use crate::further::{Summed, draw_further};
+use buffers::store;
 use fill::Columns;
 use fixed_seats::{Division, seat_fixed};
 use partition::{Sources, check_columns};
@@ -156,7 +157,7 @@ impl FaitAccompli1Sampler {
         };
         let others = &mut drawn[fixed.seats..];
         let pieces = draw_further(self.fallback, kept, words, space, others, columns)?;
-        seats[..k].copy_from_slice(drawn);
+        store(drawn, seats);
         let (first_words_read, second_words_read) = words.read_since(before);
         Ok(Committee {
             further: k - fixed.seats,

@@ -1,9 +1,9 @@
 -- A seat from each bin. A value is drawn for it before anything is known of the bin's shares, and chooses one of them later.
-use Rattle.std.specs.Prelude.{ℕ, zero, suc, ◌+◌, ◌-◌, ◌<◌, min, ◌&&◌, if◌then◌else◌, Option, Some, List, [], ◌∷◌, map, length, slice_index, set, ◌==◌, nat_lt}
+use Rattle.std.specs.Prelude.{ℕ, zero, suc, ◌+◌, ◌-◌, ◌*◌, ◌<◌, min, ◌&&◌, if◌then◌else◌, Option, Some, List, [], ◌∷◌, map, length, slice_index, set, ◌==◌, nat_lt}
 use Rattle.words.specs.Draw.{and_then}
 use Rattle.draws.specs.declared.weighted.Place.{Place}
 use Rattle.draws.specs.Below.{below}
-use Rattle.draws.specs.Weighted.{place_of, weighted}
+use Rattle.draws.specs.Weighted.{chosen, place_of, weighted}
 use Rattle.fill.specs.declared.piece.Piece.{Piece}
 use Rattle.fill.specs.declared.columns.Columns.{Columns}
 use Rattle.fill.specs.Piece.{pieces_in}
@@ -45,6 +45,11 @@ abbrev pub choices : List (List Share) → List ℕ → List Place
 choices [] vs = []
 choices (bin ∷ bins) [] = []
 choices (bin ∷ bins) (v ∷ vs) = seat_of bin (place_of (share_stakes bin) v) ∷ choices bins vs
+
+-- the validators that values choose among all pieces, where the values of bin j count from j times the capacity on
+abbrev pub seats_at : ℕ → List ℕ → List ℕ → ℕ → List ℕ → List ℕ
+seats_at capacity validators stakes j [] = []
+seats_at capacity validators stakes j (v ∷ vs) = slice_index validators (chosen stakes (j * capacity + v)) ∷ seats_at capacity validators stakes (j + 1) vs
 
 -- the first n of the pieces that stand in columns
 abbrev pub rows_of : ℕ → Columns → List Piece

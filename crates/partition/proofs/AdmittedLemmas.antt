@@ -3,7 +3,7 @@ use Rattle.std.proofs.Common.{◌≡◌, ℕ, ◌≤◌, ◌<◌, Bool, true, fa
 use Rattle.std.specs.Prelude.{◌==◌}
 use Rattle.std.proofs.lemmas.Grind.{div_ceil_times}
 use Rattle.laws.specs.Orders.{ids_from}
-use Rattle.refusals.specs.Refusal.{Check, first_of, list_length, size, short_buffer, sum_checks, empty_bin}
+use Rattle.refusals.specs.Refusal.{Check, first_of, list_length, size, short_buffer, sum_checks}
 use Rattle.refusals.proofs.CheckLemmas.{past, within_limit}
 use Rattle.words.specs.Draw.{after}
 use Rattle.draws.specs.declared.weighted.Place.{Place}
@@ -16,7 +16,8 @@ use Rattle.fill.specs.Columns.{Held, HaveRoom}
 use Rattle.fill.specs.Fill.{Share, share_stakes, in_order, fill, pieces}
 use Rattle.fill.specs.Values.{seat, seats}
 use Rattle.partition.specs.Partition.{capacity, most_pieces, short_pieces, Parted, over_bins}
-use Rattle.partition.specs.Laws.{CapacityLeast, ReadsOnly, BinsReadOnly, PartitionReadsOnly, PartitionAdmitted}
+use Rattle.partition.specs.Calls.{bin_checks}
+use Rattle.partition.specs.Laws.{CapacityLeast, ReadsOnly, BinsReadOnly, PartitionReadsOnly, PartitionAdmitted, PartitionSized}
 use Rattle.partition.proofs.PieceLaws.{capacity_fits}
 use native.Mathlib.Nat.{mul_comm}
 
@@ -66,11 +67,10 @@ have_places (bins, validators, stakes) needed checks e =
     let c = past (short_buffer (length stakes) needed) checks b.others in
     record { bins = ltb-false (length bins) needed a.not_first; validators = ltb-false (length validators) needed b.not_first; stakes = ltb-false (length stakes) needed c.not_first }
 
-pub partition_admitted : PartitionAdmitted
-partition_admitted stakes b (places, held) e =
+pub partition_sized : PartitionSized
+partition_sized stakes b (places, held) others e =
     let n = length stakes in
-    let empty = empty_bin (capacity (sum stakes) b) (sum stakes) b ∷ [] in
-    let last = sum_checks stakes ++ empty in
+    let last = sum_checks stakes ++ others in
     let columns = short_pieces held (most_pieces n b) ++ last in
     let a = past (list_length n) (size b ∷ short_buffer (length places) b ∷ columns) e in
     let c = past (size b) (short_buffer (length places) b ∷ columns) a.others in
@@ -82,5 +82,8 @@ partition_admitted stakes b (places, held) e =
       size = ltb-false 1024 b c.not_first;
       room = ltb-false (length places) b d.not_first;
       pieces = have_places held (most_pieces n b) last d.others;
-      some_stake = have_stake (short_pieces held (most_pieces n b)) stakes empty d.others;
+      some_stake = have_stake (short_pieces held (most_pieces n b)) stakes others d.others;
     }
+
+pub partition_admitted : PartitionAdmitted
+partition_admitted stakes b lent e = partition_sized stakes b lent (bin_checks stakes b) e

@@ -265,6 +265,10 @@ last_some cap S b some e = leb-false S ((b - 1) * cap) (rw (le-leb 1 b some) at 
 pub parted_some : (weights : List ℕ) (b : ℕ) (first second : List ℕ) → 0 < b → parted weights b first second ≡ over_bins weights (capacity (sum weights) b) b first second
 parted_some weights b first second some = rw (ne_eqb b 0 (λ e. omega arith)) refl
 
+-- with none, no word is read; no proof cites it; docs/TRACE.md names it as a promise
+pub parted_none : (weights : List ℕ) (b : ℕ) (first second : List ℕ) → b ≡ 0 → parted weights b first second ≡ (Some (record { drawn = []; pieces = [] }), (first, second))
+parted_none weights b first second none = rw none refl
+
 pub partitions_filled : PartitionsFilled
 partitions_filled stakes zero lent first second p e =
     let u = passed (first_of (checks stakes 0 lent)) first second (parted stakes 0 first second) p e in

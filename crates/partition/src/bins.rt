@@ -1,14 +1,16 @@
-ghost use Rattle.std.specs.Prelude.{◌≡◌, ◌+◌, IsPermutation, length, sum};
+ghost use Rattle.std.specs.Prelude.{◌≡◌, ◌+◌, ◌<◌, IsPermutation, length, sum};
 ghost use Rattle.std.specs.Option.{option_map};
 ghost use Rattle.laws.specs.Orders.{ids_from};
 ghost use Rattle.draws.specs.Shuffle.{shuffle};
 ghost use Rattle.partition.specs.Partition.{over_bins, placed};
+ghost use Rattle.partition.specs.Calls.{seats_over, with_seats, placed_or};
 ghost use Rattle.fill.specs.Columns.{held_of, HaveRoom, SameLoans};
 
-use crate::checks::Bins;
+use crate::checks::{Bins, check_bins};
 use crate::sources::Sources;
 use draws::shuffle_list;
 use fill::{Columns, Ordered, draw_values, fill_and_choose};
+use refusals::Refusal;
 use words::WordSource;
 
 // The ids from 0 on.
@@ -58,4 +60,34 @@ pub fn draw_bins<A: WordSource, B: WordSource>(
     draw_values(&mut words.second, bins.capacity, bins.sum, seats)?;
     let ordered = Ordered::new(weights, order);
     Some(fill_and_choose(ordered, bins.capacity, columns, seats))
+}
+
+/// One seat from each of as many bins as there are seats, over any weights, of which `total` is the sum. Gives the number of pieces. With
+/// no seat nothing is shuffled and no word is read.
+///
+/// # Errors
+///
+/// `EmptyBin` where a bin would be empty, before a word is read; `NoWordLeft` where the words run out. Either leaves the columns as they
+/// were.
+pub fn draw_parted<A: WordSource, B: WordSource>(
+    weights: &[u64],
+    total: u64,
+    words: &mut Sources<A, B>,
+    order: &mut [u64],
+    seats: &mut [u64],
+    columns: &mut Columns,
+) -> Result<usize, Refusal>
+    requires total { total ≡ sum weights.now }
+    requires order { length order.old ≡ length weights.now }
+    requires room { 0 < length seats.old → HaveRoom (held_of columns.old) (length weights.now + length seats.old) }
+    ensures drawn { (with_seats seats.new result, held_of columns.new, A.words words.new.first, B.words words.new.second)
+        ≡ placed_or (held_of columns.old)
+        (seats_over weights.now (length seats.old) (A.words words.old.first) (B.words words.old.second)) }
+    ensures same { SameLoans columns.old columns.new }
+{
+    if seats.is_empty() {
+        return Ok(0);
+    }
+    let bins = check_bins(total, seats.len())?;
+    draw_bins(weights, bins, words, order, seats, columns).ok_or(Refusal::NoWordLeft)
 }

@@ -5,7 +5,7 @@ ghost use Rattle.fill.specs.Columns.{held_of};
 ghost use Rattle.partition.specs.Partition.{short_pieces, most_pieces, capacity};
 
 use fill::Columns;
-use refusals::{Refusal, check_room};
+use refusals::{Refusal, check_empty_bin, check_room};
 
 /// Bins of one capacity for stakes of this sum: they have room for it, and none would be empty.
 #[derive(Clone, Copy, Debug, PartialEq, Eq)]
@@ -52,9 +52,7 @@ pub fn check_bins(sum: u64, number: usize) -> Result<Bins, Refusal>
         ≡ unless (first_of (empty_bin (capacity sum number) sum number ∷ [])) (Ok (number, capacity sum number, sum)) }
 {
     let capacity = sum.div_ceil(number as u64);
-    if (number - 1) as u128 * capacity as u128 >= sum as u128 {
-        return Err(Refusal::EmptyBin);
-    }
+    check_empty_bin(capacity, sum, number)?;
     Ok(Bins {
         number,
         capacity,

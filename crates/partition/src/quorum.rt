@@ -7,6 +7,7 @@ ghost use Rattle.fill.specs.Columns.{held_of, HaveRoom, SameLoans};
 use crate::bins::draw_bins;
 use crate::checks::{Bins, check_bins, check_columns, most_pieces};
 use crate::sources::Sources;
+use buffers::store;
 use fill::Columns;
 use refusals::{Refusal, check_list_length, check_room, check_size, check_sum};
 use scratch::with_scratch;
@@ -105,7 +106,7 @@ fn draw_in<A: WordSource, B: WordSource>(
     let (order, drawn) = space.split_at_mut(stakes.len());
     let before = words.words_left();
     let pieces = draw_bins(stakes, bins, words, order, drawn, columns).ok_or(Refusal::NoWordLeft)?;
-    seats[..bins.number].copy_from_slice(drawn);
+    store(drawn, seats);
     let (first_words_read, second_words_read) = words.read_since(before);
     Ok(Partition {
         pieces,
