@@ -1,5 +1,5 @@
 -- The lists of a case of a call over bins: seats, and the bins, validators and stakes of pieces.
-use Rattle.std.specs.Prelude.{ℕ, ◌≡◌, ◌<◌, ◌-◌, Bool, Option, Some, List, length, min, slice_index}
+use Rattle.std.specs.Prelude.{ℕ, ◌≡◌, ◌<◌, ◌-◌, Bool, Option, Some, List, length, min, slice_index, take}
 use Rattle.words.specs.Draw.{and_then}
 use Rattle.cases.specs.Numbers.{list_if}
 use Rattle.cases.specs.Lent.{IsHeld}
@@ -35,3 +35,14 @@ pub record AreHeld (lent before fronts : Lists) : Type 0 where
   pub bins : IsHeld (λ n. n) lent.bins.items before.bins.items fronts.bins.items
   pub validators : IsHeld (λ n. n) lent.validators.items before.validators.items fronts.validators.items
   pub stakes : IsHeld (λ n. n) lent.stakes.items before.stakes.items fronts.stakes.items
+
+-- the numbers of lists
+abbrev pub numbers_of : Lists → List ℕ × List ℕ × List ℕ × List ℕ
+numbers_of lists = (lists.seats.items, lists.bins.items, lists.validators.items, lists.stakes.items)
+
+-- lists as far as lent ones have places for them
+pub record AreCut (cut lists lent : Lists) : Type 0 where
+  pub seats : cut.seats.items ≡ take (length lent.seats.items) lists.seats.items
+  pub bins : cut.bins.items ≡ take (length lent.bins.items) lists.bins.items
+  pub validators : cut.validators.items ≡ take (length lent.validators.items) lists.validators.items
+  pub stakes : cut.stakes.items ≡ take (length lent.stakes.items) lists.stakes.items

@@ -1,7 +1,7 @@
 ghost use Rattle.std.specs.Prelude.{◌≤◌, length};
 
 use crate::lists::Lists;
-use cases::{Reader, STAKES, WORDS, agrees};
+use cases::{Failure, Reader, STAKES, WORDS, agrees};
 use fill::Columns;
 use refusals::Refusal;
 use std::alloc::Global;
@@ -34,19 +34,21 @@ pub fn quorum_agrees<const N: usize, S: BinsSampler<N>, F: FnOnce(usize) -> S>(
     new: F,
     text: &mut Reader,
     alloc: Global,
-) -> Option<bool>
+) -> Result<bool, Failure>
     requires row { N ≤ 4096 }
     requires callable { F.IsAlwaysCallable new }
     ensures { length text.new ≤ length text.old }
 {
-    let [size, first_at, second_at, seats, bins, validators, pieces] = text.numbers::<7>()?;
-    let stakes = text.list(STAKES, alloc)?;
-    let first = text.list(WORDS, alloc)?;
-    let second = text.list(WORDS, alloc)?;
-    let expected = text.expected::<N>()?;
-    let wanted = Lists::read_if(expected.is_ok(), text, alloc)?;
+    let [size, first_at, second_at, seats, bins, validators, pieces] = text
+        .numbers::<7>()
+        .ok_or(Failure::Malformed)?;
+    let stakes = text.list(STAKES, alloc)?.ok_or(Failure::Malformed)?;
+    let first = text.list(WORDS, alloc)?.ok_or(Failure::Malformed)?;
+    let second = text.list(WORDS, alloc)?.ok_or(Failure::Malformed)?;
+    let expected = text.expected::<N>().ok_or(Failure::Malformed)?;
+    let wanted = Lists::read_if(expected.is_ok(), text, alloc)?.ok_or(Failure::Malformed)?;
     let before = Lists::lent([seats, bins, validators, pieces], alloc)?;
-    let mut lent = before.clone().ok()?;
+    let mut lent = before.clone()?;
     let mut columns = Columns {
         bins: &mut lent.bins,
         validators: &mut lent.validators,
@@ -61,5 +63,5 @@ pub fn quorum_agrees<const N: usize, S: BinsSampler<N>, F: FnOnce(usize) -> S>(
     );
     let pieces = answer.map_or(0, |answer| answer.pieces);
     let same = agrees(answer.map(|answer| answer.numbers), expected);
-    Some(same && pieces == wanted.stakes.len() && lent.hold(&before, &wanted))
+    Ok(same && pieces == wanted.stakes.len() && lent.hold(&before, &wanted.cut_to(&before)))
 }

@@ -1,11 +1,11 @@
 //! Replays stored cases of the sampler of `decaying_acceptance`, and prints for each operation how many agree.
 #![tactic(auto)]
 
-ghost use Rattle.std.specs.Prelude.{◌≡◌, ◌≤◌, length, IfSome};
+ghost use Rattle.std.specs.Prelude.{◌≡◌, ◌≤◌, length, IfOk};
 
-use cases::{Cases, Reader, SEATS, STAKES, WORDS, agrees};
+use cases::{Cases, Failure, Reader, SEATS, STAKES, WORDS, agrees};
 use decaying_acceptance::DecayingAcceptanceSampler;
-use std::alloc::{AllocError, Global};
+use std::alloc::Global;
 use std::io;
 // Not a method of f64: a NaN keeps its bits.
 use std::num::f64_from_bits_with_nan;
@@ -14,28 +14,29 @@ use words::ListWords;
 // A text of so many bytes is too long. A test of the stored texts reads it in each program.
 const ROOM: usize = 262144;
 
-// Numbers as counts; `None` where one exceeds a u32, or where there is no memory: `try_collect` takes one error for both.
-fn counts_of(numbers: &[u64], alloc: Global) -> Option<Vec<u32>>
-    ensures { IfSome result (λ counts. counts.items ≡ numbers.now) }
+// Numbers as counts: malformed where one exceeds a u32.
+fn counts_of(numbers: &[u64], alloc: Global) -> Result<Vec<u32>, Failure>
+    ensures { IfOk result (λ counts. counts.items ≡ numbers.now) }
 {
     numbers
         .iter()
-        .map(|number| u32::try_from(*number).map_err(|_| AllocError))
+        .map(|number| u32::try_from(*number).map_err(|_| Failure::Malformed))
         .try_collect(alloc)
-        .ok()
 }
 
 // One validator. The numbers are max_samples by its bits, the tries allowed and the cursor; the case expects the id, the tries and the
 // words read, then the counts.
-fn one_agrees(text: &mut Reader, alloc: Global) -> Option<bool>
+fn one_agrees(text: &mut Reader, alloc: Global) -> Result<bool, Failure>
     ensures { length text.new ≤ length text.old }
 {
-    let [max_samples, allowed, cursor] = text.numbers::<3>()?;
-    let stakes = text.list(STAKES, alloc)?;
-    let before = text.list(STAKES, alloc)?;
-    let list = text.list(WORDS, alloc)?;
-    let expected = text.expected::<3>()?;
-    let counted = text.list_if(expected.is_ok(), STAKES, alloc)?;
+    let [max_samples, allowed, cursor] = text.numbers::<3>().ok_or(Failure::Malformed)?;
+    let stakes = text.list(STAKES, alloc)?.ok_or(Failure::Malformed)?;
+    let before = text.list(STAKES, alloc)?.ok_or(Failure::Malformed)?;
+    let list = text.list(WORDS, alloc)?.ok_or(Failure::Malformed)?;
+    let expected = text.expected::<3>().ok_or(Failure::Malformed)?;
+    let counted = text
+        .list_if(expected.is_ok(), STAKES, alloc)?
+        .ok_or(Failure::Malformed)?;
     let mut counts = counts_of(&before, alloc)?;
     let words = ListWords::new(&list, cursor as usize);
     let sampler = DecayingAcceptanceSampler::new(
@@ -46,45 +47,52 @@ fn one_agrees(text: &mut Reader, alloc: Global) -> Option<bool>
     let answer = sampler.sample_one(&stakes, &mut counts, words);
     let told = answer.map(|s| [s.id.inner(), s.tries as u64, s.words_read as u64]);
     let same = agrees(told, expected);
-    Some(same && cases::holds(&counts, &before, &counted))
+    Ok(same && cases::holds_as_lent(&counts, &before, &counted))
 }
 
 // A committee. The numbers are k, max_samples by its bits, the tries allowed, the cursor and how many seats are lent; the case expects the
 // tries and the words read, then the seats and the counts.
-fn quorum_agrees(text: &mut Reader, alloc: Global) -> Option<bool>
+fn quorum_agrees(text: &mut Reader, alloc: Global) -> Result<bool, Failure>
     ensures { length text.new ≤ length text.old }
 {
-    let [k, max_samples, allowed, cursor, places] = text.numbers::<5>()?;
-    let stakes = text.list(STAKES, alloc)?;
-    let before = text.list(STAKES, alloc)?;
-    let list = text.list(WORDS, alloc)?;
-    let expected = text.expected::<2>()?;
-    let seated = text.list_if(expected.is_ok(), SEATS, alloc)?;
-    let counted = text.list_if(expected.is_ok(), STAKES, alloc)?;
+    let [k, max_samples, allowed, cursor, places] = text.numbers::<5>().ok_or(Failure::Malformed)?;
+    let stakes = text.list(STAKES, alloc)?.ok_or(Failure::Malformed)?;
+    let before = text.list(STAKES, alloc)?.ok_or(Failure::Malformed)?;
+    let list = text.list(WORDS, alloc)?.ok_or(Failure::Malformed)?;
+    let expected = text.expected::<2>().ok_or(Failure::Malformed)?;
+    let seated = text
+        .list_if(expected.is_ok(), SEATS, alloc)?
+        .ok_or(Failure::Malformed)?;
+    let counted = text
+        .list_if(expected.is_ok(), STAKES, alloc)?
+        .ok_or(Failure::Malformed)?;
     let mut counts = counts_of(&before, alloc)?;
     let lent = cases::lent(places, SEATS, alloc)?;
-    let mut seats = lent.clone().ok()?;
+    let mut seats = lent.clone()?;
     let words = ListWords::new(&list, cursor as usize);
     let max_samples = f64_from_bits_with_nan(max_samples);
     let sampler = DecayingAcceptanceSampler::new(max_samples, allowed as usize, k as usize);
     let answer = sampler.sample_quorum(&stakes, &mut counts, words, &mut seats);
     let told = answer.map(|quorum| [quorum.tries as u64, quorum.words_read as u64]);
     let same = agrees(told, expected);
-    let same_seats = cases::holds(&seats, &lent, &seated);
-    Some(same && same_seats && cases::holds(&counts, &before, &counted))
+    let same_seats = cases::holds_as_lent(&seats, &lent, &seated);
+    Ok(same && same_seats && cases::holds_as_lent(&counts, &before, &counted))
 }
 
-// A reset: the counts before, and after it all of them.
-fn reset_agrees(text: &mut Reader, alloc: Global) -> Option<bool>
+// A reset: the counts before, and after it all of them. A count that is not stated is 0.
+fn reset_agrees(text: &mut Reader, alloc: Global) -> Result<bool, Failure>
     ensures { length text.new ≤ length text.old }
 {
-    let before = text.list(STAKES, alloc)?;
-    let expected = text.expected::<0>()?;
-    let counted = text.list_if(expected.is_ok(), STAKES, alloc)?;
+    let before = text.list(STAKES, alloc)?.ok_or(Failure::Malformed)?;
+    let expected = text.expected::<0>().ok_or(Failure::Malformed)?;
+    let counted = text
+        .list_if(expected.is_ok(), STAKES, alloc)?
+        .ok_or(Failure::Malformed)?;
     let mut counts = counts_of(&before, alloc)?;
+    let zeros = vec![in alloc; 0; counts.len()]?;
     DecayingAcceptanceSampler::new(1.0, 1, 1).reset(&mut counts);
-    let same = agrees(Ok([]), expected) && counted.len() == counts.len();
-    Some(same && cases::holds(&counts, &before, &counted))
+    let same = agrees(Ok([]), expected);
+    Ok(same && cases::holds_as_lent(&counts, &zeros, &counted))
 }
 
 struct DecayingCases;
@@ -92,13 +100,13 @@ struct DecayingCases;
 impl Cases for DecayingCases {
     const NAMES: &'static [&'static str] = &["sample_one", "sample_quorum", "reset"];
 
-    fn replay(operation: u64, text: &mut Reader, alloc: Global) -> Option<bool> {
+    fn replay(operation: u64, text: &mut Reader, alloc: Global) -> Result<bool, Failure> {
         // A stored text names an operation by its number.
         match operation {
             1 => one_agrees(text, alloc),
             2 => quorum_agrees(text, alloc),
             3 => reset_agrees(text, alloc),
-            _ => None,
+            _ => Err(Failure::Malformed),
         }
     }
 }

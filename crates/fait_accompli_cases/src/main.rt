@@ -2,7 +2,7 @@
 #![tactic(auto)]
 
 use bins_cases::{Answer, BinsSampler, quorum_agrees};
-use cases::{Cases, Reader};
+use cases::{Cases, Failure, Reader};
 use fait_accompli::FaitAccompli1Sampler;
 use fill::Columns;
 use refusals::Refusal;
@@ -44,7 +44,7 @@ struct FaitAccompliCases;
 impl Cases for FaitAccompliCases {
     const NAMES: &'static [&'static str] = &["partition_fallback", "stake_weighted_fallback"];
 
-    fn replay(operation: u64, text: &mut Reader, alloc: Global) -> Option<bool> {
+    fn replay(operation: u64, text: &mut Reader, alloc: Global) -> Result<bool, Failure> {
         // A stored text names an operation by its number.
         match operation {
             1 => quorum_agrees(
@@ -57,7 +57,7 @@ impl Cases for FaitAccompliCases {
                 text,
                 alloc,
             ),
-            _ => None,
+            _ => Err(Failure::Malformed),
         }
     }
 }

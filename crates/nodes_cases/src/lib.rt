@@ -33,19 +33,19 @@ fn holds(node: &Node, sum: u64) -> bool
     node.sums.iter().all(|value| *value == sum)
 }
 
-// Whether each sum of all the nodes is `held`, as before: so after a refused call.
-fn kept(nodes: &[Node], held: u64) -> bool
+/// Whether each sum of all the nodes is `held`, as before: so after a refused call.
+pub fn kept(nodes: &[Node], held: u64) -> bool
     ensures { result ≡ every_sum held nodes.now }
 {
     nodes.iter().all(|node| holds(node, held))
 }
 
-// Whether the nodes of the tree of n weights are zeros, and each sum of the others is as before: so after an accepted call.
-fn cleared(nodes: &[Node], n: usize) -> bool
-    ensures { result ≡ zeros_then n 18446744073709551615 nodes.now }
+/// Whether the nodes of the tree of n weights are zeros, and each sum of the others is `held`, as before: so after an accepted call.
+pub fn cleared(nodes: &[Node], n: usize, held: u64) -> bool
+    ensures { result ≡ zeros_then n held nodes.now }
 {
     let size = get_num_nodes_and_tree_size(n).tree_size.min(nodes.len());
-    kept(&nodes[..size], 0) && kept(&nodes[size..], HELD)
+    kept(&nodes[..size], 0) && kept(&nodes[size..], held)
 }
 
 /// Whether the nodes are as a call for n weights, which was accepted or refused, must leave them.
@@ -53,7 +53,7 @@ pub fn hold_after(nodes: &[Node], accepted: bool, n: usize) -> bool
     ensures { result ≡ (if accepted then zeros_then n 18446744073709551615 nodes.now else every_sum 18446744073709551615 nodes.now) }
 {
     if accepted {
-        cleared(nodes, n)
+        cleared(nodes, n, HELD)
     } else {
         kept(nodes, HELD)
     }

@@ -2,7 +2,7 @@
 #![tactic(auto)]
 
 use bins_cases::{Answer, BinsSampler, quorum_agrees};
-use cases::{Cases, Reader};
+use cases::{Cases, Failure, Reader};
 use fill::Columns;
 use partition::PartitionSampler;
 use refusals::Refusal;
@@ -43,11 +43,11 @@ struct PartitionCases;
 impl Cases for PartitionCases {
     const NAMES: &'static [&'static str] = &["sample_quorum"];
 
-    fn replay(operation: u64, text: &mut Reader, alloc: Global) -> Option<bool> {
+    fn replay(operation: u64, text: &mut Reader, alloc: Global) -> Result<bool, Failure> {
         // A stored text names an operation by its number.
         match operation {
             1 => quorum_agrees(|bins| Sampler(PartitionSampler::new(bins)), text, alloc),
-            _ => None,
+            _ => Err(Failure::Malformed),
         }
     }
 }

@@ -3,7 +3,7 @@
 
 ghost use Rattle.std.specs.Prelude.{◌≤◌, length};
 
-use cases::{Cases, Reader, SEATS, STAKES, WORDS, agrees};
+use cases::{Cases, Failure, Reader, SEATS, STAKES, WORDS, agrees};
 use stake_weighted::{IidQuorumSampler, StakeWeightedSampler};
 use std::alloc::Global;
 use std::io;
@@ -13,36 +13,38 @@ use words::ListWords;
 const ROOM: usize = 262144;
 
 // One validator. The case's number is the cursor; it expects the id and the words read.
-fn sample_agrees(text: &mut Reader, alloc: Global) -> Option<bool>
+fn sample_agrees(text: &mut Reader, alloc: Global) -> Result<bool, Failure>
     ensures { length text.new ≤ length text.old }
 {
-    let cursor = text.number()?;
-    let stakes = text.list(STAKES, alloc)?;
-    let list = text.list(WORDS, alloc)?;
-    let expected = text.expected::<2>()?;
+    let cursor = text.number().ok_or(Failure::Malformed)?;
+    let stakes = text.list(STAKES, alloc)?.ok_or(Failure::Malformed)?;
+    let list = text.list(WORDS, alloc)?.ok_or(Failure::Malformed)?;
+    let expected = text.expected::<2>().ok_or(Failure::Malformed)?;
     let words = ListWords::new(&list, cursor as usize);
     let answer = StakeWeightedSampler::new().sample(&stakes, words);
     let told = answer.map(|sample| [sample.id.inner(), sample.words_read as u64]);
-    Some(agrees(told, expected))
+    Ok(agrees(told, expected))
 }
 
 // A committee. The numbers are k, the cursor and how many seats are lent; the case expects the words read, then the seats.
-fn quorum_agrees(text: &mut Reader, alloc: Global) -> Option<bool>
+fn quorum_agrees(text: &mut Reader, alloc: Global) -> Result<bool, Failure>
     ensures { length text.new ≤ length text.old }
 {
-    let [k, cursor, places] = text.numbers::<3>()?;
-    let stakes = text.list(STAKES, alloc)?;
-    let list = text.list(WORDS, alloc)?;
-    let expected = text.expected::<1>()?;
-    let seated = text.list_if(expected.is_ok(), SEATS, alloc)?;
+    let [k, cursor, places] = text.numbers::<3>().ok_or(Failure::Malformed)?;
+    let stakes = text.list(STAKES, alloc)?.ok_or(Failure::Malformed)?;
+    let list = text.list(WORDS, alloc)?.ok_or(Failure::Malformed)?;
+    let expected = text.expected::<1>().ok_or(Failure::Malformed)?;
+    let seated = text
+        .list_if(expected.is_ok(), SEATS, alloc)?
+        .ok_or(Failure::Malformed)?;
     let before = cases::lent(places, SEATS, alloc)?;
-    let mut seats = before.clone().ok()?;
+    let mut seats = before.clone()?;
     let words = ListWords::new(&list, cursor as usize);
     let sampler = IidQuorumSampler::new(StakeWeightedSampler::new(), k as usize);
     let answer = sampler.sample_quorum(&stakes, words, &mut seats);
     let told = answer.map(|quorum| [quorum.words_read as u64]);
     let same = agrees(told, expected);
-    Some(same && cases::holds(&seats, &before, &seated))
+    Ok(same && cases::holds_as_lent(&seats, &before, &seated))
 }
 
 struct StakeWeightedCases;
@@ -50,12 +52,12 @@ struct StakeWeightedCases;
 impl Cases for StakeWeightedCases {
     const NAMES: &'static [&'static str] = &["sample", "sample_quorum"];
 
-    fn replay(operation: u64, text: &mut Reader, alloc: Global) -> Option<bool> {
+    fn replay(operation: u64, text: &mut Reader, alloc: Global) -> Result<bool, Failure> {
         // A stored text names an operation by its number.
         match operation {
             1 => sample_agrees(text, alloc),
             2 => quorum_agrees(text, alloc),
-            _ => None,
+            _ => Err(Failure::Malformed),
         }
     }
 }

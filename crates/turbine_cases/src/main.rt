@@ -1,11 +1,12 @@
 //! Replays stored cases of Turbine views, of seeds and of relays, and prints for each function how many agree.
 #![tactic(auto)]
 
-ghost use Rattle.std.specs.Prelude.{◌≡◌, ◌≤◌, ◌↔◌, length, take, Err, Ok, IfOk, IfErr, IsTrue};
+ghost use Rattle.std.specs.Prelude.{◌≡◌, ◌≤◌, ◌↔◌, if◌then◌else◌, length, take, nat_eq, slice_index, slice_set};
+ghost use Rattle.std.specs.Prelude.{Err, Ok, IfOk, IfErr, IsTrue};
 ghost use Rattle.refusals.specs.Refusal.{number_of};
 ghost use Rattle.turbine_cases.specs.Told.{numbers_of};
 
-use cases::{Cases, Reader, SEATS, STAKES, WORDS, agrees};
+use cases::{Cases, Failure, Reader, SEATS, STAKES, WORDS, agrees};
 use nodes_cases::{NODES, hold_after, nodes_before};
 use refusals::Refusal;
 use rotor::{TOTAL_SHREDS, sample_relay};
@@ -47,6 +48,15 @@ fn told(view: View) -> [u64; 4]
     ]
 }
 
+// The stated numbers of a view. Where no parent is stated, its id is not looked at: it counts as 0, as a view without one is told.
+fn stated(numbers: [u64; 4]) -> [u64; 4]
+    ensures { result ≡ (if nat_eq (slice_index numbers 1) 0 then slice_set numbers 2 0 else numbers) }
+{
+    let [root, named, parent, words_read] = numbers;
+    let parent = if named == 0 { 0 } else { parent };
+    [root, named, parent, words_read]
+}
+
 // Whether a call answers as stated and, where it is accepted, names these children.
 // By a `match`: tried with `map`, and the check of borrows refused the view's second use.
 fn answers(
@@ -67,19 +77,25 @@ fn answers(
 
 // A view. The numbers are the fanout, the own id, the cursor, and how many places of the order, nodes and places of the children are
 // lent; the case expects the four numbers of a view, then the children and the order.
-fn view_agrees(text: &mut Reader, alloc: Global) -> Option<bool>
+fn view_agrees(text: &mut Reader, alloc: Global) -> Result<bool, Failure>
     ensures { length text.new ≤ length text.old }
 {
-    let [fanout, own_id, cursor, places, nodes_lent, most_children] = text.numbers::<6>()?;
-    let stakes = text.list(STAKES, alloc)?;
-    let list = text.list(WORDS, alloc)?;
-    let expected = text.expected::<4>()?;
-    let named = text.list_if(expected.is_ok(), STAKES, alloc)?;
-    let ordered = text.list_if(expected.is_ok(), STAKES, alloc)?;
+    let [fanout, own_id, cursor, places, nodes_lent, most_children] = text
+        .numbers::<6>()
+        .ok_or(Failure::Malformed)?;
+    let stakes = text.list(STAKES, alloc)?.ok_or(Failure::Malformed)?;
+    let list = text.list(WORDS, alloc)?.ok_or(Failure::Malformed)?;
+    let expected = text.expected::<4>().ok_or(Failure::Malformed)?.map(stated);
+    let named = text
+        .list_if(expected.is_ok(), STAKES, alloc)?
+        .ok_or(Failure::Malformed)?;
+    let ordered = text
+        .list_if(expected.is_ok(), STAKES, alloc)?
+        .ok_or(Failure::Malformed)?;
     let order_before = cases::lent(places, STAKES, alloc)?;
     let children_before = cases::lent(most_children, STAKES, alloc)?;
-    let mut order = order_before.clone().ok()?;
-    let mut children = children_before.clone().ok()?;
+    let mut order = order_before.clone()?;
+    let mut children = children_before.clone()?;
     let mut nodes = nodes_before();
     let lent = nodes_lent.min(NODES as u64) as usize;
     let view = TurbineTree::new(
@@ -93,9 +109,9 @@ fn view_agrees(text: &mut Reader, alloc: Global) -> Option<bool>
     );
     let same = answers(view, expected, &children, &named);
     let same_nodes = hold_after(&nodes, expected.is_ok(), stakes.len());
-    let same_lists = cases::holds(&order, &order_before, &ordered)
-        && cases::holds(&children, &children_before, &named);
-    Some(same && same_nodes && same_lists)
+    let same_lists = cases::holds_as_lent(&order, &order_before, &ordered)
+        && cases::holds_as_lent(&children, &children_before, &named);
+    Ok(same && same_nodes && same_lists)
 }
 
 // A seed, by its function. The numbers are the slot, the shred or slice, and how many bytes are lent; the case expects the bytes.
@@ -103,32 +119,34 @@ fn seed_agrees<F: FnOnce(u64, u64, &mut [u8]) -> Result<(), Refusal>>(
     write_seed: F,
     text: &mut Reader,
     alloc: Global,
-) -> Option<bool>
+) -> Result<bool, Failure>
     requires callable { F.IsAlwaysCallable write_seed }
     ensures { length text.new ≤ length text.old }
 {
-    let [slot, part, places] = text.numbers::<3>()?;
-    let expected = text.expected::<0>()?;
-    let wanted = text.list_if(expected.is_ok(), BYTES, alloc)?;
+    let [slot, part, places] = text.numbers::<3>().ok_or(Failure::Malformed)?;
+    let expected = text.expected::<0>().ok_or(Failure::Malformed)?;
+    let wanted = text
+        .list_if(expected.is_ok(), BYTES, alloc)?
+        .ok_or(Failure::Malformed)?;
     let lent = places.min(BYTES) as usize;
     let before = [u64::from(HELD_BYTE); 64];
     let mut seed = [HELD_BYTE; 64];
     let seed = &mut seed[..lent];
     let answer = write_seed(slot, part, seed);
     let same = agrees(answer.map(|()| []), expected);
-    Some(same && cases::holds(seed, &before[..lent], &wanted))
+    Ok(same && cases::holds_as_lent(seed, &before[..lent], &wanted))
 }
 
 // A relay. The number is the shred's position; the case expects the relay's id.
-fn relay_agrees(text: &mut Reader, alloc: Global) -> Option<bool>
+fn relay_agrees(text: &mut Reader, alloc: Global) -> Result<bool, Failure>
     ensures { length text.new ≤ length text.old }
 {
-    let shred = text.number()?;
-    let seats = text.list(SEATS, alloc)?;
-    let expected = text.expected::<1>()?;
+    let shred = text.number().ok_or(Failure::Malformed)?;
+    let seats = text.list(SEATS, alloc)?.ok_or(Failure::Malformed)?;
+    let expected = text.expected::<1>().ok_or(Failure::Malformed)?;
     let relay = sample_relay(&seats, shred as usize);
     let told = relay.map(|id| [id.inner()]);
-    Some(agrees(told, expected))
+    Ok(agrees(told, expected))
 }
 
 struct TurbineCases;
@@ -136,14 +154,14 @@ struct TurbineCases;
 impl Cases for TurbineCases {
     const NAMES: &'static [&'static str] = &["view", "turbine_seed", "rotor_seed", "relay"];
 
-    fn replay(operation: u64, text: &mut Reader, alloc: Global) -> Option<bool> {
+    fn replay(operation: u64, text: &mut Reader, alloc: Global) -> Result<bool, Failure> {
         // A stored text names an operation by its number.
         match operation {
             1 => view_agrees(text, alloc),
             2 => seed_agrees(turbine_seed, text, alloc),
             3 => seed_agrees(rotor_seed, text, alloc),
             4 => relay_agrees(text, alloc),
-            _ => None,
+            _ => Err(Failure::Malformed),
         }
     }
 }
