@@ -3,7 +3,7 @@
 
 ghost use Rattle.std.specs.Prelude.{◌≡◌, ◌≤◌, length, IfOk};
 
-use cases::{Cases, Failure, Reader, SEATS, STAKES, WORDS, agrees};
+use cases::{Failure, Reader, SEATS, STAKES, TryCases, WORDS, agrees};
 use decaying_acceptance::DecayingAcceptanceSampler;
 use std::alloc::Global;
 use std::io;
@@ -97,10 +97,10 @@ fn reset_agrees(text: &mut Reader, alloc: Global) -> Result<bool, Failure>
 
 struct DecayingCases;
 
-impl Cases for DecayingCases {
-    const NAMES: &'static [&'static str] = &["sample_one", "sample_quorum", "reset"];
+impl TryCases for DecayingCases {
+    const OPERATIONS: &'static [&'static str] = &["sample_one", "sample_quorum", "reset"];
 
-    fn replay(operation: u64, text: &mut Reader, alloc: Global) -> Result<bool, Failure> {
+    fn try_replay(operation: u64, text: &mut Reader, alloc: Global) -> Result<bool, Failure> {
         // A stored text names an operation by its number.
         match operation {
             1 => one_agrees(text, alloc),

@@ -2,7 +2,7 @@
 #![tactic(auto)]
 
 use bins_cases::{Answer, BinsSampler, quorum_agrees};
-use cases::{Cases, Failure, Reader};
+use cases::{Failure, Reader, TryCases};
 use fait_accompli::FaitAccompli1Sampler;
 use fill::Columns;
 use refusals::Refusal;
@@ -41,10 +41,10 @@ impl BinsSampler<3> for Sampler {
 
 struct FaitAccompliCases;
 
-impl Cases for FaitAccompliCases {
-    const NAMES: &'static [&'static str] = &["partition_fallback", "stake_weighted_fallback"];
+impl TryCases for FaitAccompliCases {
+    const OPERATIONS: &'static [&'static str] = &["partition_fallback", "stake_weighted_fallback"];
 
-    fn replay(operation: u64, text: &mut Reader, alloc: Global) -> Result<bool, Failure> {
+    fn try_replay(operation: u64, text: &mut Reader, alloc: Global) -> Result<bool, Failure> {
         // A stored text names an operation by its number.
         match operation {
             1 => quorum_agrees(

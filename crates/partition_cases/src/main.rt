@@ -2,7 +2,7 @@
 #![tactic(auto)]
 
 use bins_cases::{Answer, BinsSampler, quorum_agrees};
-use cases::{Cases, Failure, Reader};
+use cases::{Failure, Reader, TryCases};
 use fill::Columns;
 use partition::PartitionSampler;
 use refusals::Refusal;
@@ -40,10 +40,10 @@ impl BinsSampler<2> for Sampler {
 
 struct PartitionCases;
 
-impl Cases for PartitionCases {
-    const NAMES: &'static [&'static str] = &["sample_quorum"];
+impl TryCases for PartitionCases {
+    const OPERATIONS: &'static [&'static str] = &["sample_quorum"];
 
-    fn replay(operation: u64, text: &mut Reader, alloc: Global) -> Result<bool, Failure> {
+    fn try_replay(operation: u64, text: &mut Reader, alloc: Global) -> Result<bool, Failure> {
         // A stored text names an operation by its number.
         match operation {
             1 => quorum_agrees(|bins| Sampler(PartitionSampler::new(bins)), text, alloc),

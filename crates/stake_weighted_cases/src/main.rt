@@ -3,7 +3,7 @@
 
 ghost use Rattle.std.specs.Prelude.{◌≤◌, length};
 
-use cases::{Cases, Failure, Reader, SEATS, STAKES, WORDS, agrees};
+use cases::{Failure, Reader, SEATS, STAKES, TryCases, WORDS, agrees};
 use stake_weighted::{IidQuorumSampler, StakeWeightedSampler};
 use std::alloc::Global;
 use std::io;
@@ -49,10 +49,10 @@ fn quorum_agrees(text: &mut Reader, alloc: Global) -> Result<bool, Failure>
 
 struct StakeWeightedCases;
 
-impl Cases for StakeWeightedCases {
-    const NAMES: &'static [&'static str] = &["sample", "sample_quorum"];
+impl TryCases for StakeWeightedCases {
+    const OPERATIONS: &'static [&'static str] = &["sample", "sample_quorum"];
 
-    fn replay(operation: u64, text: &mut Reader, alloc: Global) -> Result<bool, Failure> {
+    fn try_replay(operation: u64, text: &mut Reader, alloc: Global) -> Result<bool, Failure> {
         // A stored text names an operation by its number.
         match operation {
             1 => sample_agrees(text, alloc),

@@ -6,7 +6,7 @@ ghost use Rattle.std.specs.Prelude.{Err, Ok, IfOk, IfErr, IsTrue};
 ghost use Rattle.refusals.specs.Refusal.{number_of};
 ghost use Rattle.turbine_cases.specs.Told.{numbers_of};
 
-use cases::{Cases, Failure, Reader, SEATS, STAKES, WORDS, agrees};
+use cases::{Failure, Reader, SEATS, STAKES, TryCases, WORDS, agrees};
 use nodes_cases::{NODES, hold_after, nodes_before};
 use refusals::Refusal;
 use rotor::{TOTAL_SHREDS, sample_relay};
@@ -151,10 +151,10 @@ fn relay_agrees(text: &mut Reader, alloc: Global) -> Result<bool, Failure>
 
 struct TurbineCases;
 
-impl Cases for TurbineCases {
-    const NAMES: &'static [&'static str] = &["view", "turbine_seed", "rotor_seed", "relay"];
+impl TryCases for TurbineCases {
+    const OPERATIONS: &'static [&'static str] = &["view", "turbine_seed", "rotor_seed", "relay"];
 
-    fn replay(operation: u64, text: &mut Reader, alloc: Global) -> Result<bool, Failure> {
+    fn try_replay(operation: u64, text: &mut Reader, alloc: Global) -> Result<bool, Failure> {
         // A stored text names an operation by its number.
         match operation {
             1 => view_agrees(text, alloc),

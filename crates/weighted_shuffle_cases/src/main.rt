@@ -3,7 +3,7 @@
 
 ghost use Rattle.std.specs.Prelude.{◌≡◌, ◌≤◌, ◌↔◌, length, reverse, take, IsTrue};
 
-use cases::{Cases, Failure, Reader, STAKES, WORDS, agrees};
+use cases::{Failure, Reader, STAKES, TryCases, WORDS, agrees};
 use nodes_cases::{NODES, hold_after, nodes_before};
 use std::alloc::Global;
 use std::io;
@@ -101,10 +101,14 @@ fn shuffle_agrees(text: &mut Reader, alloc: Global) -> Result<bool, Failure>
 
 struct ShuffleCases;
 
-impl Cases for ShuffleCases {
-    const NAMES: &'static [&'static str] = &["get_num_nodes_and_tree_size", "begin", "shuffle"];
+impl TryCases for ShuffleCases {
+    const OPERATIONS: &'static [&'static str] = &[
+        "get_num_nodes_and_tree_size",
+        "begin",
+        "shuffle",
+    ];
 
-    fn replay(operation: u64, text: &mut Reader, alloc: Global) -> Result<bool, Failure> {
+    fn try_replay(operation: u64, text: &mut Reader, alloc: Global) -> Result<bool, Failure> {
         // A stored text names an operation by its number.
         match operation {
             1 => sizes_agree(text),
